@@ -1,0 +1,1 @@
+// What all crates share: definitions (specs/) and laws (proofs/). No code.

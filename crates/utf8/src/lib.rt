@@ -1,0 +1,209 @@
+// UTF-8 by RFC 3629: the character at the front of a slice, and the first byte where no well-formed sequence begins.
+ghost use mathlib.Core.Path.{_≡_};
+ghost use Prim.Native.Nat.{_<_};
+ghost use lib.ListN.{getD};
+ghost use Rattle.base.specs.Text.{from};
+ghost use Rattle.utf8.specs.Utf8.{tail};
+ghost use Rattle.utf8.specs.Sequence.{three, four, sequenceBy, sequence, valueBy, wellFormed, width, size};
+ghost use Rattle.utf8.specs.Answers.{characterOf, checkedOf};
+
+// What stands at the front of a slice. A refusal carries document 01's number, which every reader above passes on.
+pub enum Character {
+    Scalar { value: u32, size: usize },
+    Refused { number: usize },
+}
+
+// Whether a text is UTF-8, and if not, at which byte no well-formed sequence begins.
+pub enum Checked {
+    Whole,
+    Refused { number: usize, place: usize },
+}
+
+// The byte at i, or 0 past the end.
+fn byte(s: &[u8], i: usize) -> u8
+    ensures { λ r. ⌜ r ≡ getD (now (s .entry)) i 0 ⌝ }
+{
+    if i < s.len() { s[i] } else { 0 }
+}
+
+// Is the byte one from low to high?
+fn within(low: u8, high: u8, b: u8) -> bool
+    ensures { λ r. ⌜ r ≡ from low high b ⌝ }
+{
+    if b < low {
+        return false;
+    }
+    b <= high
+}
+
+// UTF8-tail.
+fn is_tail(b: u8) -> bool
+    ensures { λ r. ⌜ r ≡ tail b ⌝ }
+{
+    within(0x80, 0xBF, b)
+}
+
+// The first two bytes of UTF8-3.
+fn starts_three(a: u8, b: u8) -> bool
+    ensures { λ r. ⌜ r ≡ three a b ⌝ }
+{
+    if a == 0xE0 {
+        return within(0xA0, 0xBF, b);
+    }
+    if a == 0xED {
+        return within(0x80, 0x9F, b);
+    }
+    if within(0xE1, 0xEF, a) {
+        return is_tail(b);
+    }
+    false
+}
+
+// The first two bytes of UTF8-4.
+fn starts_four(a: u8, b: u8) -> bool
+    ensures { λ r. ⌜ r ≡ four a b ⌝ }
+{
+    if a == 0xF0 {
+        return within(0x90, 0xBF, b);
+    }
+    if a == 0xF4 {
+        return within(0x80, 0x8F, b);
+    }
+    if within(0xF1, 0xF3, a) {
+        return is_tail(b);
+    }
+    false
+}
+
+// How many bytes the well-formed sequence has that begins with these four; 0 where none does.
+fn sequence_by(a: u8, b: u8, c: u8, d: u8) -> usize
+    ensures { λ r. ⌜ r ≡ sequenceBy a b c d ⌝ }
+{
+    if a < 0x80 {
+        return 1;
+    }
+    if within(0xC2, 0xDF, a) {
+        if is_tail(b) {
+            return 2;
+        }
+        return 0;
+    }
+    if starts_three(a, b) {
+        if is_tail(c) {
+            return 3;
+        }
+        return 0;
+    }
+    if starts_four(a, b) {
+        if is_tail(c) {
+            if is_tail(d) {
+                return 4;
+            }
+        }
+    }
+    0
+}
+
+// How many bytes the well-formed sequence at the front of s has; 0 where none begins there.
+fn sequence_at(s: &[u8]) -> usize
+    ensures { λ r. ⌜ r ≡ sequence (now (s .entry)) ⌝ }
+{
+    if s.len() == 0 {
+        return 0;
+    }
+    let a = s[0];
+    if a < 0x80 {
+        return 1;
+    }
+    sequence_by(a, byte(s, 1), byte(s, 2), byte(s, 3))
+}
+
+fn wide(b: u8) -> u32
+    ensures { λ r. ⌜ r ≡ b ⌝ }
+{
+    b as u32
+}
+
+// The number of the character whose sequence has n bytes.
+fn value_by(n: usize, a: u8, b: u8, c: u8, d: u8) -> u32
+    requires { ⌜ n ≡ sequenceBy a b c d ⌝ }
+    requires { ⌜ 0 < n ⌝ }
+    ensures { λ r. ⌜ r ≡ valueBy n a b c d ⌝ }
+{
+    if n == 1 {
+        return wide(a);
+    }
+    if n == 2 {
+        return (wide(a) - 0xC0) * 64 + (wide(b) - 0x80);
+    }
+    if n == 3 {
+        return (wide(a) - 0xE0) * 4096 + (wide(b) - 0x80) * 64 + (wide(c) - 0x80);
+    }
+    (wide(a) - 0xF0) * 262144 + (wide(b) - 0x80) * 4096 + (wide(c) - 0x80) * 64 + (wide(d) - 0x80)
+}
+
+// The character at the front of s: its number and its size, or that no well-formed sequence begins there.
+pub fn decode(s: &[u8]) -> Character
+    ensures { λ r. ⌜ r ≡ characterOf (now (s .entry)) ⌝ }
+{
+    let n = sequence_at(s);
+    if n == 0 {
+        return Character::Refused { number: 3 };
+    }
+    Character::Scalar {
+        value: value_by(n, byte(s, 0), byte(s, 1), byte(s, 2), byte(s, 3)),
+        size: n,
+    }
+}
+
+// How many bytes are passed, sequence after sequence, before the first byte where no well-formed one begins.
+pub fn valid_up_to(text: &[u8]) -> usize
+    ensures { λ r. ⌜ r ≡ wellFormed (now (text .entry)) ⌝ }
+{
+    let mut i = 0;
+    loop {
+        let n = sequence_at(&text[i..]);
+        if n == 0 {
+            return i;
+        }
+        i += n;
+    }
+}
+
+// Is the text UTF-8?
+pub fn validate(text: &[u8]) -> Checked
+    ensures { λ r. ⌜ r ≡ checkedOf (now (text .entry)) ⌝ }
+{
+    let place = valid_up_to(text);
+    if place == text.len() {
+        return Checked::Whole;
+    }
+    Checked::Refused { number: 3, place }
+}
+
+// How many bytes the character has that starts with the byte; 1 for a byte that starts none.
+fn width_of(b: u8) -> usize
+    ensures { λ r. ⌜ r ≡ width b ⌝ }
+{
+    if within(0xC2, 0xDF, b) {
+        return 2;
+    }
+    if within(0xE0, 0xEF, b) {
+        return 3;
+    }
+    if within(0xF0, 0xF4, b) {
+        return 4;
+    }
+    1
+}
+
+// How many bytes the character at the front of s has, if any: never past the end.
+pub fn size_at(s: &[u8]) -> usize
+    ensures { λ r. ⌜ r ≡ size (now (s .entry)) ⌝ }
+{
+    if s.len() == 0 {
+        return 0;
+    }
+    let n = width_of(s[0]);
+    if n <= s.len() { n } else { s.len() }
+}
