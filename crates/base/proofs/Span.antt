@@ -1,13 +1,22 @@
 -- Laws of `span`, for any unit: what a loop that goes from unit to unit needs. Assumes nothing.
 use mathlib.Core.Path.{_≡_, refl, sym, ap, _∙_}
 use mathlib.Core.List.{List, [], _∷_}
-use Prim.Native.Nat.{ℕ, zero, suc, pred, _+_, _-_, _≤_, _<_, zero-le}
+use Prim.Native.Nat.{ℕ, zero, suc, pred, _+_, _-_, _≤_, _<_, zero-le, suc-le-suc}
 use native.Mathlib.Nat.{zero-add, suc-add, add-zero, not-suc-le-zero, le-of-suc-le-suc}
 use native.Mathlib.Omega.{arith}
 use borrow.Author.Tests.{eq-eqb, ne-eqb}
 use lib.ListN.{length, drop, take, length-drop}
 use lib.Seq.{drop-drop, take-all}
+use lib.Dec.{eqb}
 use Rattle.base.specs.Span.{span}
+use Rattle.base.proofs.Tests.{pick-le}
+
+-- a run has no byte past the end
+pub span-fits : (unit : List ℕ → ℕ) (skip : ℕ) (t : List ℕ) → span unit skip t ≤ length t
+unfolding span
+span-fits unit skip [] = zero-le
+span-fits unit zero (b ∷ t) = pick-le (eqb (unit (b ∷ t)) 0) _ _ _ zero-le (suc-le-suc (span-fits unit (pred (unit (b ∷ t))) t))
+span-fits unit (suc k) (b ∷ t) = suc-le-suc (span-fits unit k t)
 
 -- bytes that are skipped count, and are as good as dropped
 span-skip : (unit : List ℕ → ℕ) (k : ℕ) (t : List ℕ) → k ≤ length t → span unit k t ≡ k + span unit 0 (drop k t)
