@@ -16,4 +16,7 @@ pub mod StringClosed
 pub mod StringAlone
 pub mod Sentences
 pub mod Register
+pub mod Tokens
+pub mod Faults
+pub mod Items
 pub mod StringCases

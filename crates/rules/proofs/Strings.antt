@@ -39,7 +39,7 @@ one-size (block a) (block b) = block-one-size a b
 
 -- 19 is the code of a closed string without a fault
 
-clean-19 : (r : Scan) (n : ℕ) → Clean r n → codeOf r ≡ 19
+pub clean-19 : (r : Scan) (n : ℕ) → Clean r n → codeOf r ≡ 19
 unfolding codeOf
 clean-19 r n c = rw (c .closed, c .faults)
 
@@ -115,15 +115,15 @@ pub data Kind (t : List ℕ) (x : Lexeme) : Type 0 where
   unterminated : x .code ≡ 64 + 12 → x .size ≡ length t → 1 < length t → Kind t x
   faulty : 64 + 13 ≤ x .code → x .code ≤ 64 + 18 → ((n : ℕ) → x .size ≡ suc n → getD t n 0 ≡ 34) → Kind t x
 
-code-faulty : (r : Scan) (f : ℕ) (fs : List ℕ) → r .closed ≡ true → r .faults ≡ f ∷ fs → codeOf r ≡ 64 + last f fs
+pub code-faulty : (r : Scan) (f : ℕ) (fs : List ℕ) → r .closed ≡ true → r .faults ≡ f ∷ fs → codeOf r ≡ 64 + last f fs
 unfolding codeOf
 code-faulty r f fs c e = rw (c, e)
 
-code-lone : (r : Scan) → r .closed ≡ false → eqb (r .size) 1 ≡ true → codeOf r ≡ 75
+pub code-lone : (r : Scan) → r .closed ≡ false → eqb (r .size) 1 ≡ true → codeOf r ≡ 75
 unfolding codeOf
 code-lone r c e = rw (c, e)
 
-code-open : (r : Scan) → r .closed ≡ false → eqb (r .size) 1 ≡ false → codeOf r ≡ 76
+pub code-open : (r : Scan) → r .closed ≡ false → eqb (r .size) 1 ≡ false → codeOf r ≡ 76
 unfolding codeOf
 code-open r c e = rw (c, e)
 

@@ -64,7 +64,7 @@ pub data Fault : (error : ℕ) → List ℕ → (size : ℕ) → Type 0 where
   -- 12 other unterminated string: to the end
   unterminated : (r : List ℕ) → 0 < length r → stringScan (34 ∷ r) .closed ≡ false → Fault 12 (34 ∷ r) (length (34 ∷ r))
   -- 13 to 18, within a closed string, through its closing quote: the last fault gives the code
-  faulty : (r : List ℕ) (f : ℕ) (fs : List ℕ) → stringScan (34 ∷ r) .closed ≡ true → stringScan (34 ∷ r) .faults ≡ f ∷ fs
+  inString : (r : List ℕ) (f : ℕ) (fs : List ℕ) → stringScan (34 ∷ r) .closed ≡ true → stringScan (34 ∷ r) .faults ≡ f ∷ fs
       → Fault (last f fs) (34 ∷ r) (stringScan (34 ∷ r) .size)
 
 -- `Stands k t n`: at the front of the text t stands an item of code k, and it has n bytes: a token, or an error, whose code is 64 + error
