@@ -31,7 +31,6 @@ module _ (F : List ℕ → Type 0) (f : List ℕ → ℕ) (fits : (t : List ℕ)
       let v : length a ≤ f t = most a r (h .0) in
       omega arith
 
-
 -- a run of bytes of a class
 module _ (c : Class) where
   pub run-fits : (t : List ℕ) → run c t ≤ length t

@@ -19,4 +19,7 @@ pub mod Register
 pub mod Tokens
 pub mod Faults
 pub mod Items
-pub mod StringCases
+pub mod Bounds
+pub mod Boundary
+pub mod Follow
+mod Cases

@@ -97,7 +97,7 @@ unfolding stringToken
 string-sound t o =
     tested t (eqb (stringAt t .code) 19) _ _
     (λ e. let c = eqb-true (stringAt t .code) 19 e in
-      rw c (string (string-value t (stringAt t .size) o (ap (λ (k : ℕ). lexeme k (stringAt t .size)) c))))
+    rw c (string (string-value t (stringAt t .size) o (ap (λ (k : ℕ). lexeme k (stringAt t .size)) c))))
     (λ e. tt)
 
 pub sound : (t : List ℕ) → Sound t (tokenAt t)
