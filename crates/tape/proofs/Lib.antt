@@ -1,0 +1,4 @@
+-- Laws of tapes.
+pub mod Stores
+pub mod Over
+pub mod Decode
