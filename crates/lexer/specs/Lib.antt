@@ -1,0 +1,3 @@
+-- What the contracts of the lexer cite.
+pub mod Class
+pub mod Scan

@@ -1,0 +1,6 @@
+// The lexer of apollo-parser: what stands at the cursor, one item a step. The scanners get the unread suffix of the text.
+mod lookup;
+mod state;
+mod scan;
+
+pub use lookup::class;
