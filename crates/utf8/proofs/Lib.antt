@@ -1,1 +1,6 @@
 -- Laws of UTF-8.
+pub mod Leads
+pub mod Order
+pub mod Front
+pub mod Outcomes
+pub mod Turn
