@@ -1,14 +1,22 @@
-// Scanners of names, whitespace, comments and spreads. Each gets the unread suffix of the text, and says what stands at its front.
-use lookup::is_name_continue;
-use state::Scan;
-use state::State;
+// Scanners of names, whitespace, comments, spreads and all that one byte decides. Each gets the unread suffix of the text and says what
+// stands at its front.
+use crate::lookup::class;
+use crate::lookup::is_name_continue;
+use crate::number::number;
+use crate::state::Scan;
+use crate::state::State;
 ghost use mathlib.Core.Path.{_≡_};
-ghost use mathlib.Core.Bool.{true};
-ghost use lib.ListN.{getD};
+ghost use mathlib.Core.Bool.{true, false};
+ghost use Prim.Native.Nat.{_<_};
+ghost use lib.Dec.{eqb};
+ghost use lib.ListN.{length, getD};
 ghost use Rattle.base.specs.Run.{run};
 ghost use Rattle.rules.specs.Classes.{nameStart, nameContinue, notLineEnd};
+ghost use Rattle.rules.specs.Tokens.{blankBy, blank, blanks};
 ghost use Rattle.rules.specs.Items.{itemAt};
-ghost use Rattle.lexer.specs.Scan.{meaning};
+ghost use Rattle.base.specs.Item.{lexeme};
+ghost use Rattle.lexer.specs.Class.{classOf};
+ghost use Rattle.lexer.specs.Scan.{endOf, meaning};
 
 // How many bytes at the front of s continue a name.
 fn name_run(s: &[u8]) -> usize
@@ -24,17 +32,173 @@ fn name_run(s: &[u8]) -> usize
     i
 }
 
+// How many bytes at the front of s stand before LF, CR or the end.
+fn line_run(s: &[u8]) -> usize
+    ensures { λ r. ⌜ r ≡ run notLineEnd (now (s .entry)) ⌝ }
+{
+    let mut i = 0;
+    while i < s.len() {
+        let b = s[i];
+        if b == b'\n' {
+            return i;
+        }
+        if b == b'\r' {
+            return i;
+        }
+        i += 1;
+    }
+    i
+}
+
+// The byte at i, or 0 past the end.
+fn byte(s: &[u8], i: usize) -> u8
+    ensures { λ r. ⌜ r ≡ getD (now (s .entry)) i 0 ⌝ }
+{
+    if i < s.len() { s[i] } else { 0 }
+}
+
+// How many bytes the tab, space, LF, CR or U+FEFF at the front of s has; 0 where none stands there.
+fn blank_at(s: &[u8]) -> usize
+    ensures { λ r. ⌜ r ≡ blank (now (s .entry)) ⌝ }
+{
+    let b = byte(s, 0);
+    if class(b) == 1 {
+        return 1;
+    }
+    if b == 0xEF {
+        if byte(s, 1) == 0xBB {
+            if byte(s, 2) == 0xBF {
+                return 3;
+            }
+        }
+    }
+    0
+}
+
+// How many bytes the run of blanks at the front of s has.
+fn blank_run(s: &[u8]) -> usize
+    ensures { λ r. ⌜ r ≡ blanks (now (s .entry)) ⌝ }
+{
+    let mut i = 0;
+    loop {
+        let n = blank_at(&s[i..]);
+        if n == 0 {
+            return i;
+        }
+        i += n;
+    }
+}
+
+// A token of n bytes that ends before a byte that does not belong to it, or at the text's end.
+fn ends(rest: &[u8], kind: u8, state: State, n: usize) -> Scan
+    requires { ⌜ endOf state ≡ kind ⌝ }
+    ensures { λ r. ⌜ meaning r ≡ lexeme kind n ⌝ }
+{
+    if n == rest.len() {
+        return Scan::Eof { state, size: n };
+    }
+    Scan::Done { kind, size: n }
+}
+
 // A name: the first byte starts one.
-pub fn ident(rest: &[u8]) -> Scan
+fn ident(rest: &[u8]) -> Scan
+    requires { ⌜ 0 < length (now rest) ⌝ }
     requires { ⌜ nameStart (getD (now rest) 0 0) ≡ true ⌝ }
     ensures { λ r. ⌜ meaning r ≡ itemAt (now (rest .entry)) ⌝ }
 {
-    let n = 1 + name_run(&rest[1..]);
-    if n == rest.len() {
+    let n = name_run(&rest[1..]);
+    ends(rest, 18, State::Ident, 1 + n)
+}
+
+// A comment: the first byte is `#`.
+fn comment(rest: &[u8]) -> Scan
+    requires { ⌜ 0 < length (now rest) ⌝ }
+    requires { ⌜ getD (now rest) 0 0 ≡ 35 ⌝ }
+    ensures { λ r. ⌜ meaning r ≡ itemAt (now (rest .entry)) ⌝ }
+{
+    let n = line_run(&rest[1..]);
+    ends(rest, 2, State::Comment, 1 + n)
+}
+
+// Whitespace: a blank stands at the front.
+fn whitespace(rest: &[u8]) -> Scan
+    requires { ⌜ 0 < blank (now rest) ⌝ }
+    ensures { λ r. ⌜ meaning r ≡ itemAt (now (rest .entry)) ⌝ }
+{
+    let n = blank_run(rest);
+    ends(rest, 1, State::Whitespace, n)
+}
+
+// A spread or a bad one: the first byte is `.`.
+fn spread_operator(rest: &[u8]) -> Scan
+    requires { ⌜ 0 < length (now rest) ⌝ }
+    requires { ⌜ getD (now rest) 0 0 ≡ 46 ⌝ }
+    ensures { λ r. ⌜ meaning r ≡ itemAt (now (rest .entry)) ⌝ }
+{
+    let n = rest.len();
+    if n == 1 {
         return Scan::Eof {
-            state: State::Ident,
-            size: n,
+            state: State::SpreadOperator,
+            size: 1,
         };
     }
-    Scan::Done { kind: 18, size: n }
+    if rest[1] != b'.' {
+        return Scan::Error {
+            fault: 10,
+            size: 1 + utf8::size_at(&rest[1..]),
+        };
+    }
+    if n == 2 {
+        return Scan::Eof {
+            state: State::SpreadOperator,
+            size: 2,
+        };
+    }
+    if rest[2] == b'.' {
+        return Scan::Token { kind: 9, size: 3 };
+    }
+    Scan::Error { fault: 10, size: 2 }
+}
+
+// The first byte begins no token, unless it begins U+FEFF.
+fn other(rest: &[u8]) -> Scan
+    requires { ⌜ 0 < length (now rest) ⌝ }
+    requires { ⌜ classOf (getD (now rest) 0 0) ≡ 0 ⌝ }
+    ensures { λ r. ⌜ meaning r ≡ itemAt (now (rest .entry)) ⌝ }
+{
+    if blank_at(rest) == 0 {
+        return Scan::Error {
+            fault: 1,
+            size: utf8::size_at(rest),
+        };
+    }
+    whitespace(rest)
+}
+
+// What stands at the front of a suffix that is not empty and does not begin with a quote.
+pub fn scan(rest: &[u8]) -> Scan
+    requires { ⌜ 0 < length (now rest) ⌝ }
+    requires { ⌜ eqb (getD (now rest) 0 0) 34 ≡ false ⌝ }
+    ensures { λ r. ⌜ meaning r ≡ itemAt (now (rest .entry)) ⌝ }
+{
+    let kind = class(rest[0]);
+    if kind == 18 {
+        return ident(rest);
+    }
+    if kind == 1 {
+        return whitespace(rest);
+    }
+    if kind == 0 {
+        return other(rest);
+    }
+    if kind == 2 {
+        return comment(rest);
+    }
+    if kind == 9 {
+        return spread_operator(rest);
+    }
+    if kind >= 20 {
+        return number(rest);
+    }
+    Scan::Token { kind, size: 1 }
 }

@@ -4,3 +4,4 @@ pub mod Order
 pub mod Front
 pub mod Outcomes
 pub mod Turn
+pub mod Characters

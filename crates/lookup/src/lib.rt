@@ -1,26 +1,20 @@
 // Classes of bytes: `class` decides, and the rest of the lexer asks it.
 ghost use mathlib.Core.Path.{_≡_};
 ghost use Rattle.rules.specs.Classes.{digit, nameStart, nameContinue};
-ghost use Rattle.lexer.specs.Class.{classOf};
+ghost use Rattle.lookup.specs.Class.{punctuationOf, classOf};
 
 // The class of a byte: the code of the token that can begin with it, but 21 for `-`, and 0 if none can.
 pub fn class(b: u8) -> u8
     ensures { λ r. ⌜ r ≡ classOf b ⌝ }
 {
-    if b >= b'a' {
-        if b <= b'z' {
-            return 18;
-        }
+    if base::within(b'a', b'z', b) {
+        return 18;
     }
-    if b >= b'A' {
-        if b <= b'Z' {
-            return 18;
-        }
+    if base::within(b'A', b'Z', b) {
+        return 18;
     }
-    if b >= b'0' {
-        if b <= b'9' {
-            return 20;
-        }
+    if base::within(b'0', b'9', b) {
+        return 20;
     }
     match b {
         b'_' => 18,

@@ -1,0 +1,1 @@
+-- Laws of the machine of numbers.

@@ -1,0 +1,91 @@
+-- What the answers mean, and the machine of numbers that the code runs: proved to give the items of document 01, the machine need not be
+-- believed. Assumes nothing: these are definitions.
+use Prim.Native.Nat.{ℕ, zero, suc, _+_}
+use mathlib.Core.Bool.{Bool, true, false}
+use mathlib.Core.List.{List, [], _∷_}
+use lib.Dec.{eqb}
+use Rattle.base.specs.Text.{pick}
+use Rattle.base.specs.Item.{Lexeme, lexeme}
+use Rattle.utf8.specs.Sequence as utf8
+use Rattle.rules.specs.Classes.{digit, nameStart, exponentMark}
+use Rattle.numbers.specs.declared.NumberState.{NumberState}
+use Rattle.numbers.specs.declared.NumberState.the-variants.{MinusSign, LeadingZero, IntegerPart, DecimalPoint, FractionalPart, ExponentIndicator, ExponentSign, ExponentDigit}
+use Rattle.numbers.specs.declared.NumberStep.{NumberStep}
+use Rattle.numbers.specs.declared.NumberStep.the-variants.{Go, Done, Error}
+use Rattle.numbers.specs.declared.NumberScan.{NumberScan}
+use Rattle.numbers.specs.declared.NumberScan.the-variants as scan
+
+-- the code of the item that the text's end leaves of a number: 8 after `-`, 9 where a float lacks a digit
+abbrev pub endOf : NumberState → ℕ
+endOf MinusSign = 64 + 8
+endOf LeadingZero = 20
+endOf IntegerPart = 20
+endOf DecimalPoint = 64 + 9
+endOf FractionalPart = 21
+endOf ExponentIndicator = 64 + 9
+endOf ExponentSign = 64 + 9
+endOf ExponentDigit = 21
+
+-- the item that was found
+abbrev pub meaning : NumberScan → Lexeme
+meaning (scan.Done kind size) = lexeme kind size
+meaning (scan.Error fault size) = lexeme (64 + fault) size
+meaning (scan.Eof state size) = lexeme (endOf state) size
+
+-- after the integer part, of which the byte does not continue the digits
+unfoldable pub afterInteger : ℕ → NumberStep
+afterInteger b =
+    pick (eqb b 46) (Go DecimalPoint)
+    (pick (exponentMark b) (Go ExponentIndicator)
+    (pick (nameStart b) (Error 3) Done))
+
+-- after a fraction or an exponent, of which the byte does not continue the digits
+unfoldable pub afterFloat : ℕ → NumberStep
+afterFloat b = pick (eqb b 46) (Error 5) (pick (nameStart b) (Error 5) Done)
+
+-- what a digit does
+unfoldable pub digitStep : NumberState → ℕ → NumberStep
+digitStep MinusSign b = pick (eqb b 48) (Go LeadingZero) (Go IntegerPart)
+digitStep LeadingZero b = Error 2
+digitStep IntegerPart b = Go IntegerPart
+digitStep DecimalPoint b = Go FractionalPart
+digitStep FractionalPart b = Go FractionalPart
+digitStep ExponentIndicator b = Go ExponentDigit
+digitStep ExponentSign b = Go ExponentDigit
+digitStep ExponentDigit b = Go ExponentDigit
+
+-- what any other byte does
+unfoldable pub otherStep : NumberState → ℕ → NumberStep
+otherStep MinusSign b = Error 8
+otherStep LeadingZero b = afterInteger b
+otherStep IntegerPart b = afterInteger b
+otherStep DecimalPoint b = Error 4
+otherStep FractionalPart b = pick (exponentMark b) (Go ExponentIndicator) (afterFloat b)
+otherStep ExponentIndicator b = pick (eqb b 43) (Go ExponentSign) (pick (eqb b 45) (Go ExponentSign) (Error 6))
+otherStep ExponentSign b = Error 7
+otherStep ExponentDigit b = afterFloat b
+
+unfoldable pub stepOf : NumberState → ℕ → NumberStep
+stepOf s b = pick (digit b) (digitStep s b) (otherStep s b)
+
+-- the code of a number that ends before a byte
+unfoldable pub kindOf : NumberState → ℕ
+kindOf MinusSign = 20
+kindOf LeadingZero = 20
+kindOf IntegerPart = 20
+kindOf DecimalPoint = 20
+kindOf FractionalPart = 21
+kindOf ExponentIndicator = 20
+kindOf ExponentSign = 20
+kindOf ExponentDigit = 21
+
+-- what a step makes of a number of which n bytes led to the state s, where r follows them; k reads on
+abbrev pub scanBy : NumberStep → NumberState → (n : ℕ) → List ℕ → (NumberState → Lexeme) → Lexeme
+scanBy (Go next) s n r k = k next
+scanBy Done s n r k = lexeme (kindOf s) n
+scanBy (Error fault) s n r k = lexeme (64 + fault) (n + utf8.size r)
+
+-- the item of a number of which n bytes led to the state s, and what follows them
+unfoldable pub scanFrom : NumberState → (n : ℕ) → List ℕ → Lexeme
+scanFrom s n [] = lexeme (endOf s) n
+scanFrom s n (b ∷ t) = scanBy (stepOf s b) s n (b ∷ t) (λ next. scanFrom next (suc n) t)

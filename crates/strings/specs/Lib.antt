@@ -1,0 +1,2 @@
+-- Strings.
+pub mod String

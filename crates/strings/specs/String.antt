@@ -1,0 +1,130 @@
+-- What the answers mean, and the machine of strings that the code runs: proved to give the items of document 01, the machine need not be
+-- believed. Assumes nothing: these are definitions.
+use Prim.Native.Nat.{ℕ, suc, _+_, _-_, min}
+use mathlib.Core.Path.{_≡_}
+use mathlib.Core.Bool.{Bool, true, false, not, _&&_}
+use mathlib.Core.List.{List, [], _∷_}
+use lib.Dec.{eqb, ltb}
+use Rattle.base.specs.Text.{pick}
+use Rattle.utf8.specs.Encode.{scalar}
+use Rattle.rules.specs.Classes.{lineEnd, escapedCharacter, hexDigit, withDigit, leadSurrogate, trailSurrogate}
+use Rattle.rules.specs.Faults.{blockScan, stringScan}
+use Rattle.rules.specs.StringAt.{last}
+use Rattle.strings.specs.declared.StringState.{StringState}
+use Rattle.strings.specs.declared.StringState.the-variants.{StringLiteralStart, StringLiteral, StringLiteralBackslash, StringLiteralEscapedUnicode, StringLiteralEscapedUnicodeVariable, StringLiteralLeadSurrogate, StringLiteralLeadSurrogateBackslash, BlockStringLiteral}
+use Rattle.strings.specs.declared.StringStep.{StringStep}
+use Rattle.strings.specs.declared.StringStep.the-variants.{Go, Close}
+use Rattle.strings.specs.declared.StringScan.{StringScan}
+
+-- the code of the item that the text's end leaves of a string: 11 for a lone quote, 12 for any other
+abbrev pub endOf : StringState → ℕ
+endOf StringLiteralStart = 64 + 11
+endOf StringLiteral = 64 + 12
+endOf StringLiteralBackslash = 64 + 12
+endOf (StringLiteralEscapedUnicode remaining value trail) = 64 + 12
+endOf (StringLiteralEscapedUnicodeVariable value digits) = 64 + 12
+endOf StringLiteralLeadSurrogate = 64 + 12
+endOf StringLiteralLeadSurrogateBackslash = 64 + 12
+endOf BlockStringLiteral = 64 + 12
+
+-- the number with one hex digit more, which stays at 110000 once there
+unfoldable pub capped : ℕ → ℕ → ℕ
+capped v b = min (withDigit v b) 0x110000
+
+-- where a character, an escape or the closing quote may stand
+unfoldable pub inText : ℕ → StringStep
+inText b =
+    pick (eqb b 34) (Close 0)
+    (pick (eqb b 92) (Go StringLiteralBackslash 0)
+    (pick (lineEnd b) (Go StringLiteral 13) (Go StringLiteral 0)))
+
+-- straight after the opening quote
+unfoldable pub startStep : ℕ → StringStep
+startStep b = pick (lineEnd b) (Go StringLiteral 0) (inText b)
+
+-- after a backslash
+unfoldable pub backslashStep : ℕ → StringStep
+backslashStep b =
+    pick (escapedCharacter b) (Go StringLiteral 0)
+    (pick (eqb b 117) (Go (StringLiteralEscapedUnicode 4 0 false) 0) (Go StringLiteral 14))
+
+-- a hex digit is due and another character stands there
+unfoldable pub noDigit : ℕ → StringStep
+noDigit b = pick (eqb b 34) (Close 16) (Go StringLiteral 15)
+
+-- a four-digit escape is whole
+unfoldable pub wholeUnicode : ℕ → Bool → StringStep
+wholeUnicode v true = pick (trailSurrogate v) (Go StringLiteral 0) (Go StringLiteral 17)
+wholeUnicode v false =
+    pick (leadSurrogate v) (Go StringLiteralLeadSurrogate 0)
+    (pick (trailSurrogate v) (Go StringLiteral 17) (Go StringLiteral 0))
+
+-- in a four-digit escape
+unfoldable pub unicodeStep : ℕ → ℕ → Bool → ℕ → StringStep
+unicodeStep r v p b =
+    pick (hexDigit b)
+    (pick (ltb 1 r) (Go (StringLiteralEscapedUnicode (r - 1) (capped v b) p) 0) (wholeUnicode (capped v b) p))
+    (pick (eqb b 123 && (eqb r 4 && not p)) (Go (StringLiteralEscapedUnicodeVariable 0 false) 0) (noDigit b))
+
+-- in a braced escape
+unfoldable pub variableStep : ℕ → Bool → ℕ → StringStep
+variableStep v d b =
+    pick (hexDigit b) (Go (StringLiteralEscapedUnicodeVariable (capped v b) true) 0)
+    (pick (eqb b 125) (pick (d && scalar v) (Go StringLiteral 0) (Go StringLiteral 18))
+    (noDigit b))
+
+-- after a lead surrogate
+unfoldable pub leadStep : ℕ → StringStep
+leadStep b =
+    pick (eqb b 92) (Go StringLiteralLeadSurrogateBackslash 0)
+    (pick (eqb b 34) (Close 17) (Go StringLiteral 17))
+
+-- after a lead surrogate and a backslash
+unfoldable pub leadBackslashStep : ℕ → StringStep
+leadBackslashStep b = pick (eqb b 117) (Go (StringLiteralEscapedUnicode 4 0 true) 0) (Go StringLiteral 17)
+
+unfoldable pub stringStep : StringState → ℕ → StringStep
+stringStep StringLiteralStart b = startStep b
+stringStep StringLiteral b = inText b
+stringStep StringLiteralBackslash b = backslashStep b
+stringStep (StringLiteralEscapedUnicode r v p) b = unicodeStep r v p b
+stringStep (StringLiteralEscapedUnicodeVariable v d) b = variableStep v d b
+stringStep StringLiteralLeadSurrogate b = leadStep b
+stringStep StringLiteralLeadSurrogateBackslash b = leadBackslashStep b
+stringStep BlockStringLiteral b = inText b
+
+-- the later fault counts; 0 is none
+unfoldable pub laterOf : ℕ → ℕ → ℕ
+laterOf kept fault = pick (eqb fault 0) kept fault
+
+-- a scan that began n bytes earlier
+abbrev pub further : ℕ → StringScan → StringScan
+further n r = record { closed = r .closed; size = n + r .size; fault = r .fault; state = r .state }
+
+-- where a quoted string begins
+abbrev pub begun : StringState
+begun = StringLiteralStart
+
+-- what a step makes of a string in the state s, with the kept fault; k reads on
+abbrev pub quotedBy : StringStep → StringState → ℕ → (StringState → ℕ → StringScan) → StringScan
+quotedBy (Go next fault) s kept k = further 1 (k next (laterOf kept fault))
+quotedBy (Close fault) s kept k = record { closed = true; size = 1; fault = laterOf kept fault; state = s }
+
+-- a quoted string, read on from a state, with the kept fault
+unfoldable pub quotedFrom : StringState → ℕ → List ℕ → StringScan
+quotedFrom s kept [] = record { closed = false; size = 0; fault = kept; state = s }
+quotedFrom s kept (b ∷ t) = quotedBy (stringStep s b) s kept (λ next fault. quotedFrom next fault t)
+
+-- a block string: it has no faults of its own
+unfoldable pub blockOf : ℕ → List ℕ → StringScan
+blockOf kept t = record { closed = blockScan t .closed; size = blockScan t .size; fault = kept; state = BlockStringLiteral }
+
+-- what a scan of the string at the front of t says of it
+pub record StringScans (kept : ℕ) (t : List ℕ) (r : StringScan) : Type 0 where
+  -- whether it closes, and through which byte
+  pub closes : r .closed ≡ stringScan t .closed
+  pub covers : r .size ≡ stringScan t .size
+  -- its last fault, or the kept one
+  pub faults : r .fault ≡ last kept (stringScan t .faults)
+  -- at the text's end: error 11 for a lone quote, else 12
+  pub ends : r .closed ≡ false → endOf (r .state) ≡ pick (eqb (r .size) 1) 75 76
