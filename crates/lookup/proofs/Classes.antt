@@ -168,3 +168,19 @@ capital-letter b e = name-class b (rw e)
 pub in-digits : (b : ℕ) → from 48 57 b ≡ true → classOf b ≡ 20
 unfolding digit
 in-digits b e = digit-class b e
+
+-- what is left after the ranges and the single bytes
+pub left-over : (b : ℕ) → from 97 122 b ≡ false → from 65 90 b ≡ false → from 48 57 b ≡ false → (b ≡ 95 → ⊥) → (b ≡ 9 → ⊥) → (b ≡ 10 → ⊥) → (b ≡ 13 → ⊥)
+    → (b ≡ 32 → ⊥) → (b ≡ 34 → ⊥) → (b ≡ 35 → ⊥) → (b ≡ 45 → ⊥) → (b ≡ 46 → ⊥) → classOf b ≡ punctuationOf b
+unfolding classOf nameStart letter digit
+left-over b s c d u t l r w q h m p =
+    rw (c, s, ne-eqb b 95 u, d, ne-eqb b 9 t, ne-eqb b 10 l, ne-eqb b 13 r, ne-eqb b 32 w, ne-eqb b 34 q, ne-eqb b 35 h, ne-eqb b 45 m, ne-eqb b 46 p)
+
+-- what continues a name
+pub name-continues : (b : ℕ) → classOf b ≡ 18 → nameContinue b ≡ true
+unfolding nameContinue
+name-continues b e = rw (class-name b e)
+
+pub digit-continues : (b : ℕ) → (classOf b ≡ 18 → ⊥) → eqb (classOf b) 20 ≡ nameContinue b
+unfolding nameContinue
+digit-continues b n = rw (refuted (nameStart b) (λ e. n (name-class b e))) (test-digit b)
