@@ -1,8 +1,5 @@
 // Scanners of names, whitespace, comments, spreads and all that one byte decides. Each gets the unread suffix of the text and says what
 // stands at its front.
-use crate::lookup::class;
-use crate::lookup::is_name_continue;
-use crate::number::number;
 use crate::state::Scan;
 use crate::state::State;
 ghost use mathlib.Core.Path.{_≡_};
@@ -15,7 +12,7 @@ ghost use Rattle.rules.specs.Classes.{nameStart, nameContinue, notLineEnd};
 ghost use Rattle.rules.specs.Tokens.{blankBy, blank, blanks};
 ghost use Rattle.rules.specs.Items.{itemAt};
 ghost use Rattle.base.specs.Item.{lexeme};
-ghost use Rattle.lexer.specs.Class.{classOf};
+ghost use Rattle.lookup.specs.Class.{classOf};
 ghost use Rattle.lexer.specs.Scan.{endOf, meaning};
 
 // How many bytes at the front of s continue a name.
@@ -24,7 +21,7 @@ fn name_run(s: &[u8]) -> usize
 {
     let mut i = 0;
     while i < s.len() {
-        if !is_name_continue(s[i]) {
+        if !lookup::is_name_continue(s[i]) {
             return i;
         }
         i += 1;
@@ -50,24 +47,17 @@ fn line_run(s: &[u8]) -> usize
     i
 }
 
-// The byte at i, or 0 past the end.
-fn byte(s: &[u8], i: usize) -> u8
-    ensures { λ r. ⌜ r ≡ getD (now (s .entry)) i 0 ⌝ }
-{
-    if i < s.len() { s[i] } else { 0 }
-}
-
 // How many bytes the tab, space, LF, CR or U+FEFF at the front of s has; 0 where none stands there.
 fn blank_at(s: &[u8]) -> usize
     ensures { λ r. ⌜ r ≡ blank (now (s .entry)) ⌝ }
 {
-    let b = byte(s, 0);
-    if class(b) == 1 {
+    let b = base::byte_at(s, 0);
+    if lookup::class(b) == 1 {
         return 1;
     }
     if b == 0xEF {
-        if byte(s, 1) == 0xBB {
-            if byte(s, 2) == 0xBF {
+        if base::byte_at(s, 1) == 0xBB {
+            if base::byte_at(s, 2) == 0xBF {
                 return 3;
             }
         }
@@ -173,32 +163,4 @@ fn other(rest: &[u8]) -> Scan
         };
     }
     whitespace(rest)
-}
-
-// What stands at the front of a suffix that is not empty and does not begin with a quote.
-pub fn scan(rest: &[u8]) -> Scan
-    requires { ⌜ 0 < length (now rest) ⌝ }
-    requires { ⌜ eqb (getD (now rest) 0 0) 34 ≡ false ⌝ }
-    ensures { λ r. ⌜ meaning r ≡ itemAt (now (rest .entry)) ⌝ }
-{
-    let kind = class(rest[0]);
-    if kind == 18 {
-        return ident(rest);
-    }
-    if kind == 1 {
-        return whitespace(rest);
-    }
-    if kind == 0 {
-        return other(rest);
-    }
-    if kind == 2 {
-        return comment(rest);
-    }
-    if kind == 9 {
-        return spread_operator(rest);
-    }
-    if kind >= 20 {
-        return number(rest);
-    }
-    Scan::Token { kind, size: 1 }
 }

@@ -1,0 +1,2 @@
+-- Laws of the scanners.
+pub mod Fronts
