@@ -20,7 +20,8 @@ pub data Front : ℕ → List ℕ → Type 0 where
   front3 : {a b c : ℕ} {r : List ℕ} → Three a b → tail c ≡ true → Front 3 (a ∷ b ∷ c ∷ r)
   front4 : {a b c d : ℕ} {r : List ℕ} → Four a b → tail c ≡ true → tail d ≡ true → Front 4 (a ∷ b ∷ c ∷ d ∷ r)
 
-pick-by : (P : ℕ → Type 0) (v : Bool) (m n : ℕ) → (v ≡ true → P m) → P n → P (pick v m n)
+-- what holds of both that a test picks from
+pub pick-by : (P : ℕ → Type 0) (v : Bool) (m n : ℕ) → (v ≡ true → P m) → P n → P (pick v m n)
 pick-by P true m n f h = f refl
 pick-by P false m n f h = h
 
@@ -35,19 +36,19 @@ by-sequence P a b c d p0 p1 p2 p3 p4 =
     (pick-by P (four a b && (tail c && tail d)) _ _ (λ e. let h = and-true _ _ e in let k = and-true _ _ (h .1) in p4 (four-sound a b (h .0)) (k .0) (k .1)) p0)))
 
 -- past the end stands 0, which is no tail
-no-tail : {A : Type 0} → tail 0 ≡ true → A
-no-tail e = apart false e refl
+zero-no-tail : {A : Type 0} → tail 0 ≡ true → A
+zero-no-tail e = apart false e refl
 
 -- `sequence` counts the bytes of a character that stands there
 pub front : (t : List ℕ) → Front (sequence t) t
 unfolding sequence
 front [] = front0
 front (a ∷ []) =
-    by-sequence (λ n. Front n (a ∷ [])) a 0 0 0 front0 front1 (λ h g. no-tail g) (λ h g. no-tail g) (λ h g k. no-tail k)
+    by-sequence (λ n. Front n (a ∷ [])) a 0 0 0 front0 front1 (λ h g. zero-no-tail g) (λ h g. zero-no-tail g) (λ h g k. zero-no-tail k)
 front (a ∷ b ∷ []) =
-    by-sequence (λ n. Front n (a ∷ b ∷ [])) a b 0 0 front0 front1 front2 (λ h g. no-tail g) (λ h g k. no-tail k)
+    by-sequence (λ n. Front n (a ∷ b ∷ [])) a b 0 0 front0 front1 front2 (λ h g. zero-no-tail g) (λ h g k. zero-no-tail k)
 front (a ∷ b ∷ c ∷ []) =
-    by-sequence (λ n. Front n (a ∷ b ∷ c ∷ [])) a b c 0 front0 front1 front2 front3 (λ h g k. no-tail k)
+    by-sequence (λ n. Front n (a ∷ b ∷ c ∷ [])) a b c 0 front0 front1 front2 front3 (λ h g k. zero-no-tail k)
 front (a ∷ b ∷ c ∷ d ∷ r) =
     by-sequence (λ n. Front n (a ∷ b ∷ c ∷ d ∷ r)) a b c d front0 front1 front2 front3 front4
 
@@ -64,7 +65,8 @@ front-size (front4 {a = a} {b = b} h g l) p =
     let k = four-range h in
     rw (from-above 0 0x7F a (omega arith), from-above 0xC2 0xDF a (omega arith), no-three a b (omega arith), four-complete h, g, l)
 
-front-le : {n : ℕ} {t : List ℕ} → Front n t → n ≤ length t
+-- which does not reach past the end
+pub front-le : {n : ℕ} {t : List ℕ} → Front n t → n ≤ length t
 front-le front0 = omega arith
 front-le (front1 h) = omega arith
 front-le (front2 h g) = omega arith

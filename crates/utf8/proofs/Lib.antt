@@ -4,3 +4,7 @@ pub mod Order
 pub mod Front
 pub mod Outcomes
 pub mod Turn
+pub mod Characters
+pub mod Exact
+pub mod Longest
+pub mod Encoded
