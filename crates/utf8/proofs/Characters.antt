@@ -40,25 +40,26 @@ skip-sequence b r u =
     let f = first u (omega arith) in
     rw (front-size (f .begins) (f .some)) (f .some, f .after)
 
--- a byte's width, where the text is long enough
+-- the size is the first byte's width, where the text is long enough
 size-is : (b n : ℕ) (r : List ℕ) → width b ≡ n → n ≤ suc (length r) → size (b ∷ r) ≡ n
 unfolding size
 size-is b n r e l = omega arith
 
+-- a byte's width, by its range
 width-one : (b : ℕ) → ascii b ≡ true → width b ≡ 1
 unfolding width
 width-one b h =
-    let k = from-true 0 0x7F b h in
+    let k = from-true _ _ b h in
     rw (from-below 0xC2 0xDF b (omega arith), from-below 0xE0 0xEF b (omega arith), from-below 0xF0 0xF4 b (omega arith))
 
 width-three : (b : ℕ) → from 0xE0 0xEF b ≡ true → width b ≡ 3
 unfolding width
-width-three b h = let k = from-true 0xE0 0xEF b h in rw (from-above 0xC2 0xDF b (omega arith), h)
+width-three b h = let k = from-true _ _ b h in rw (from-above 0xC2 0xDF b (omega arith), h)
 
 width-four : (b : ℕ) → from 0xF0 0xF4 b ≡ true → width b ≡ 4
 unfolding width
 width-four b h =
-    let k = from-true 0xF0 0xF4 b h in
+    let k = from-true _ _ b h in
     rw (from-above 0xC2 0xDF b (omega arith), from-above 0xE0 0xEF b (omega arith), h)
 
 -- the first byte of a character tells its size
@@ -80,7 +81,7 @@ size-sequence u p =
     let f = first u p in
     front-first (f .begins) (f .some) ∙ sym (front-size (f .begins) (f .some))
 
--- there is a character, and it does not reach past the end
+-- a character has a byte
 width-pos : (b : ℕ) → 0 < width b
 unfolding width
 width-pos b =
@@ -92,6 +93,7 @@ pub size-pos : (b : ℕ) (r : List ℕ) → 0 < size (b ∷ r)
 unfolding size
 size-pos b r = omega (arith, width-pos b)
 
+-- and does not reach past the end
 pub size-le : (t : List ℕ) → size t ≤ length t
 unfolding size
 size-le [] = omega arith
@@ -110,6 +112,7 @@ skip-character {t} u = after-size t u
 pub skip-one : {b : ℕ} {r : List ℕ} → ascii b ≡ true → Utf8 (b ∷ r) → Utf8 r
 skip-one {b} {r} a u = rw (size-is b 1 r (width-one b a) (omega arith)) at (skip-character u)
 
+-- after bytes of ASCII
 pub skip-all : (a r : List ℕ) → All ascii a → Utf8 (a ++ r) → Utf8 r
 skip-all [] r h u = u
 skip-all (b ∷ a) r h u = skip-all a r (h .1) (skip-one (h .0) u)

@@ -1,6 +1,6 @@
 -- Reading sequence after sequence decides the ABNF: a text is UTF-8 exactly when all of it is passed. Assumes nothing.
 use Prim.Native.Nat.{ℕ, zero, suc, _+_, _≤_, _<_}
-use mathlib.Core.Path.{_≡_, sym, _∙_}
+use mathlib.Core.Path.{_≡_}
 use mathlib.Core.List.{List, [], _∷_, _++_, append-nil}
 use mathlib.Core.Logic.{_↔_}
 use native.Mathlib.Nat.{le-refl, zero-add, add-zero}
@@ -48,21 +48,23 @@ pass-utf8 (four {b = b} {c = c} {d = d} {e = g} {r = a} h t v u) r =
     let i = pass-utf8 u r in
     omega arith
 
--- what is passed is UTF-8
+-- what is passed is UTF-8, in a text of at most k bytes
 passed-within : (k : ℕ) (t : List ℕ) → length t ≤ k → Utf8 (take (wellFormed t) t)
 unfolding wellFormed
 passed-within zero t l = rw (span-stop sequence t (omega (arith, sequence-le t))) none
 passed-within (suc k) t l =
     by (eqb (sequence t) 0) (λ z. rw (span-stop sequence t (eqb-true _ 0 z)) none)
     (λ z.
-        let n = sequence t in
-        let q = eqb-false n 0 z in
-        let p : 0 < n = omega arith in
-        rw (pass (front t) p, take-add) (more (front t) p (passed-within k (drop n t) (omega (arith, length-drop n t)))))
+    let n = sequence t in
+    let q = eqb-false n 0 z in
+    let p : 0 < n = omega arith in
+    rw (pass (front t) p, take-add) (more (front t) p (passed-within k (drop n t) (omega (arith, length-drop n t)))))
 
+-- the same, with no bound on the length
 pub passed : (t : List ℕ) → Utf8 (take (wellFormed t) t)
 passed t = passed-within (length t) t (le-refl (length t))
 
+-- a text is UTF-8 exactly when all of it is passed
 pub utf8-exact : (t : List ℕ) → Utf8 t ↔ (wellFormed t ≡ length t)
 unfolding wellFormed span
 utf8-exact t = (

@@ -8,3 +8,5 @@ pub mod Characters
 pub mod Exact
 pub mod Longest
 pub mod Encoded
+pub mod Unique
+pub mod Cases
