@@ -1,6 +1,6 @@
 -- Reading sequence after sequence decides the ABNF: a text is UTF-8 exactly when all of it is passed. Assumes nothing.
 use Prim.Native.Nat.{ℕ, zero, suc, _+_, _≤_, _<_}
-use mathlib.Core.Path.{_≡_}
+use mathlib.Core.Path.{_≡_, refl}
 use mathlib.Core.List.{List, [], _∷_, _++_, append-nil}
 use mathlib.Core.Logic.{_↔_}
 use native.Mathlib.Nat.{le-refl, zero-add, add-zero}
@@ -15,6 +15,9 @@ use Rattle.base.proofs.Span.{span-stop, span-step}
 use Rattle.utf8.specs.Utf8.{Utf8, none, one, two, three, four}
 use Rattle.utf8.specs.Sequence.{sequence, wellFormed}
 use Rattle.utf8.proofs.Front.{Front, front1, front2, front3, front4, front, front-size, front-le, sequence-le}
+use Rattle.utf8.specs.Answers.{checkedOf}
+use Rattle.utf8.specs.declared.Checked.the-variants as checked
+use Rattle.utf8.proofs.Outcomes.{whole, not-whole}
 use Rattle.utf8.proofs.Characters.{more}
 
 -- where a sequence stands and what follows it is UTF-8, the text is UTF-8
@@ -70,4 +73,13 @@ unfolding wellFormed span
 utf8-exact t = (
   λ u. rw (append-nil, add-zero) at (pass-utf8 u []),
   λ e. rw (e, take-length) at (passed t),
+)
+
+-- a text is answered to be whole exactly when it is UTF-8
+pub whole-exact : (t : List ℕ) → (checkedOf t ≡ checked.Whole) ↔ Utf8 t
+whole-exact t = (
+  λ e. utf8-exact t .1
+      (by (eqb (wellFormed t) (length t)) (λ q. eqb-true _ _ q)
+      (λ q. let r = not-whole t (wellFormed t) refl (eqb-false _ _ q) in let z : _≡_ {A = ℕ} 0 1 = cc in absurd (omega arith))),
+  λ u. whole t (wellFormed t) refl (utf8-exact t .0 u),
 )
