@@ -5,3 +5,8 @@ pub mod Front
 pub mod Outcomes
 pub mod Turn
 pub mod Characters
+pub mod Exact
+pub mod Longest
+pub mod Encoded
+pub mod Unique
+pub mod Cases
