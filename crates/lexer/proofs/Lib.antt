@@ -1,2 +1,3 @@
 -- Laws of the scanners.
+pub mod Blanks
 pub mod Fronts

@@ -1,0 +1,46 @@
+-- `lexer::scan::comment` meets its contract. Assumes nothing.
+use mathlib.Core.Path.{_≡_, refl, sym, ap, _∙_}
+use Prim.Native.Nat.{ℕ, _+_}
+use native.Mathlib.Omega.{arith}
+use Rattle.base.specs.Item.{lexeme}
+use Rattle.rules.specs.Classes.{notLineEnd}
+use Rattle.lexer.proofs.Fronts.{comment-item, tail-run, tail-fits}
+use borrow.Author.Needs.{needs}
+use Rattle.lexer.proofs.scan.comment.Statement.{statement}
+use Rattle.lexer.proofs.scan.comment.Tie as tie
+
+sub-line-run : tie.Need-sub-line-run
+sub-line-run c = search needs
+
+part-line-run-start : tie.Need-part-line-run-start
+part-line-run-start c = search needs
+
+part-line-run-end : tie.Need-part-line-run-end
+part-line-run-end c = search needs
+
+line-run-requires : tie.Need-line-run-requires
+line-run-requires c κs = search needs
+
+add-ends : tie.Need-add-ends
+add-ends c = omega (arith, tail-fits notLineEnd (c .before .before .before .args .rest .now) (c .line-run .result) (c .before .before .before .pre .0) (c .line-run .ensures))
+
+ends-requires : tie.Need-ends-requires
+ends-requires c κs = search needs
+
+returns : tie.Need-returns
+returns c =
+    c .ends .ensures
+    ∙ ap (λ (n : ℕ). lexeme 2 (1 + n)) (tail-run notLineEnd (c .before .before .before .before .args .rest .now) (c .before .line-run .result) (c .before .before .before .before .pre .0) (c .before .line-run .ensures))
+    ∙ sym (comment-item (c .before .before .before .before .args .rest .now) (c .before .before .before .before .pre .0) (c .before .before .before .before .pre .1))
+
+pub comment-spec : {M : Type 1} → statement M
+comment-spec =
+    tie.close
+    (tie.spec
+    sub-line-run
+    part-line-run-start
+    part-line-run-end
+    line-run-requires
+    add-ends
+    ends-requires
+    returns)

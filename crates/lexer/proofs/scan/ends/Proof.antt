@@ -1,0 +1,13 @@
+-- `lexer::scan::ends` meets its contract. Assumes nothing.
+use borrow.Author.Needs.{needs}
+use Rattle.lexer.proofs.scan.ends.Statement.{statement}
+use Rattle.lexer.proofs.scan.ends.Tie as tie
+
+returns : tie.Need-returns
+returns c = rw (c .before .pre)
+
+returns-2 : tie.Need-returns-2
+returns-2 c = search needs
+
+pub ends-spec : {M : Type 1} → statement M
+ends-spec = tie.close (tie.spec returns returns-2)
