@@ -19,6 +19,7 @@ pub mod Register
 pub mod Tokens
 pub mod Faults
 pub mod Items
+pub mod Codes
 pub mod Bounds
 pub mod Boundary
 pub mod Follow
