@@ -1,0 +1,3 @@
+-- What the entries answer.
+pub mod Answers
+pub mod Part
