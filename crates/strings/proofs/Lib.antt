@@ -1,1 +1,4 @@
 -- Laws of the machine of strings.
+pub mod Classes
+pub mod Quoted
+pub mod Block
