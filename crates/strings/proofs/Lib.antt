@@ -2,3 +2,4 @@
 pub mod Classes
 pub mod Quoted
 pub mod Block
+pub mod Simulation
