@@ -3,3 +3,4 @@ pub mod Classes
 pub mod Quoted
 pub mod Block
 pub mod Simulation
+pub mod Unique
