@@ -1,0 +1,30 @@
+-- Quoted strings as the code reads them: the loop that takes one byte after another. Assumes nothing.
+use mathlib.Core.Path.{_≡_, refl}
+use mathlib.Core.Bool.{true, false}
+use mathlib.Core.List.{List}
+use Prim.Native.Nat.{ℕ, suc, _+_, _≤_, _<_}
+use native.Mathlib.Nat.{add-zero, add-assoc}
+use native.Mathlib.Numerals.{add-one}
+use lib.ListN.{length, getD, drop, drop-of-length-le}
+use lib.Seq.{drop-cons}
+use Rattle.strings.specs.declared.StringState.{StringState}
+use Rattle.strings.specs.declared.StringStep.the-variants.{Go, Close}
+use Rattle.strings.specs.String.{stringStep, laterOf, further, quotedFrom}
+
+module _ (s : StringState) (kept i : ℕ) (t : List ℕ) where
+  -- the byte at i leads to another state
+  pub quoted-goes : (next : StringState) (fault : ℕ) → i < length t → stringStep s (getD t i 0) ≡ Go next fault
+      → further i (quotedFrom s kept (drop i t)) ≡ further (i + 1) (quotedFrom next (laterOf kept fault) (drop (i + 1) t))
+  unfolding quotedFrom
+  quoted-goes next fault h e = rw (drop-cons t i 0 h, e, add-assoc, add-one)
+
+  -- the byte at i closes the string
+  pub quoted-closes : (fault : ℕ) → i < length t → stringStep s (getD t i 0) ≡ Close fault
+      → further i (quotedFrom s kept (drop i t)) ≡ record { closed = true; size = i + 1; fault = laterOf kept fault; state = s }
+  unfolding quotedFrom
+  quoted-closes fault h e = rw (drop-cons t i 0 h, e)
+
+  -- the text ends
+  pub quoted-ends : length t ≤ i → further i (quotedFrom s kept (drop i t)) ≡ record { closed = false; size = i; fault = kept; state = s }
+  unfolding quotedFrom
+  quoted-ends h = rw (drop-of-length-le t h, add-zero)

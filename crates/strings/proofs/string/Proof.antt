@@ -1,0 +1,37 @@
+-- `strings::string` meets its contract: a block string where `"""` stands, else a quoted string. Assumes nothing.
+use mathlib.Core.Path.{sym, _∙_}
+use borrow.Author.Needs.{needs}
+use Rattle.strings.proofs.Block.{quotes-long}
+use Rattle.strings.proofs.Simulation.{quoted-scans, block-scans}
+use Rattle.strings.proofs.string.Statement.{statement}
+use Rattle.strings.proofs.string.Tie as tie
+
+quotes-at-requires : tie.Need-quotes-at-requires
+quotes-at-requires c κs = search needs
+
+block-string-literal-requires : tie.Need-block-string-literal-requires
+block-string-literal-requires c κs =
+    quotes-long (c .before .before .before .args .rest .now) (sym (c .before .quotes-at .ensures) ∙ c .if1 .taken)
+
+returns : tie.Need-returns
+returns c =
+    let a = c .before .before .before .before .args in
+    rw (c .block-string-literal .ensures) (block-scans (a .kept) (a .rest .now) (sym (c .before .before .quotes-at .ensures) ∙ c .before .if1 .taken))
+
+string-literal-requires : tie.Need-string-literal-requires
+string-literal-requires c κs = search needs
+
+returns-2 : tie.Need-returns-2
+returns-2 c =
+    let a = c .before .before .before .before .args in
+    rw (c .string-literal .ensures) (quoted-scans (a .kept) (a .rest .now) (sym (c .before .before .quotes-at .ensures) ∙ c .before .if1 .left))
+
+pub string-spec : {M : Type 1} → statement M
+string-spec =
+    tie.close
+    (tie.spec
+    quotes-at-requires
+    block-string-literal-requires
+    returns
+    string-literal-requires
+    returns-2)

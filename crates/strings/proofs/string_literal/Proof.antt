@@ -1,0 +1,95 @@
+-- `strings::string_literal` meets its contract. The invariant: the string is that which is read on from the state at i, i bytes further on.
+-- Assumes nothing.
+use mathlib.Core.Path.{_≡_, refl, sym, _∙_}
+use Prim.Native.Nat.{_+_, _-_, _≤_}
+use lib.ListN.{length, drop}
+use borrow.Author.Needs.{needs}
+use Rattle.strings.specs.String.{further, begun, quotedFrom}
+use Rattle.strings.proofs.Quoted.{quoted-goes, quoted-closes, quoted-ends}
+use Rattle.strings.proofs.string_literal.Statement.{statement}
+use Rattle.strings.proofs.string_literal.Tie as tie
+
+abbrev Inv-loop : tie.InvT-loop
+Inv-loop rest kept state₀ err₀ i₀ state err i =
+    (i ≤ length rest) × (further 1 (quotedFrom begun kept (drop 1 rest)) ≡ further i (quotedFrom state err (drop i rest)))
+
+abbrev μ-loop : tie.MeasureT-loop
+μ-loop rest kept state₀ err₀ i₀ state err i = length rest - i
+
+loop-holds : tie.Need-loop-holds Inv-loop μ-loop
+loop-holds c = (c .before .pre, refl)
+
+shared-slice-read-string-step : tie.Need-shared-slice-read-string-step Inv-loop μ-loop
+shared-slice-read-string-step c = search needs
+
+string-step-requires : tie.Need-string-step-requires Inv-loop μ-loop
+string-step-requires c κs = search needs
+
+enum-known-next : tie.Need-enum-known-next Inv-loop μ-loop
+enum-known-next c = search needs
+
+later-requires : tie.Need-later-requires Inv-loop μ-loop
+later-requires c κs = search needs
+
+add-i : tie.Need-add-i Inv-loop μ-loop
+add-i c = search needs
+
+loop-less : tie.Need-loop-less Inv-loop μ-loop
+loop-less c = search needs
+
+loop-again : tie.Need-loop-again Inv-loop μ-loop
+loop-again c =
+    let at-next = c .before .before in
+    let at-step = at-next .before .before in
+    let at-test = at-step .before .before in
+    let at-loop = at-test .before in
+    let a = at-loop .before .before .args in
+    let v = at-next .next .given in
+    let goes = quoted-goes (at-loop .loop .state) (at-loop .loop .err) (at-loop .loop .i) (a .rest .now) (v .0 .0) (v .0 .1 .0) (at-test .loop-test .taken) (sym (at-step .string-step .ensures) ∙ v .1) in
+    (search needs, at-loop .loop .inv .1 ∙ goes ∙ rw (c .later .ensures))
+
+enum-known-fault : tie.Need-enum-known-fault Inv-loop μ-loop
+enum-known-fault c = search needs
+
+add-t14 : tie.Need-add-t14 Inv-loop μ-loop
+add-t14 c = search needs
+
+later-requires-2 : tie.Need-later-requires-2 Inv-loop μ-loop
+later-requires-2 c κs = search needs
+
+returns : tie.Need-returns Inv-loop μ-loop
+returns c =
+    let at-fault = c .before .before in
+    let at-step = at-fault .before .before in
+    let at-test = at-step .before .before in
+    let at-loop = at-test .before in
+    let a = at-loop .before .before .args in
+    let v = at-fault .fault .given in
+    let closes = quoted-closes (at-loop .loop .state) (at-loop .loop .err) (at-loop .loop .i) (a .rest .now) (v .0 .0) (at-test .loop-test .taken) (sym (at-step .string-step .ensures) ∙ v .1) in
+    rw (c .later2 .ensures) (sym (at-loop .loop .inv .1 ∙ closes))
+
+returns-2 : tie.Need-returns-2 Inv-loop μ-loop
+returns-2 c =
+    let at-loop = c .before in
+    let a = at-loop .before .before .args in
+    sym (at-loop .loop .inv .1 ∙ quoted-ends (at-loop .loop .state) (at-loop .loop .err) (at-loop .loop .i) (a .rest .now) (c .loop-test .left))
+
+pub string-literal-spec : {M : Type 1} → statement M
+string-literal-spec =
+    tie.close
+    (tie.spec
+    Inv-loop
+    μ-loop
+    loop-holds
+    shared-slice-read-string-step
+    string-step-requires
+    enum-known-next
+    later-requires
+    add-i
+    loop-less
+    loop-again
+    enum-known-fault
+    add-t14
+    later-requires-2
+    returns
+    returns-2)
