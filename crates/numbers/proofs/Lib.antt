@@ -1,1 +1,2 @@
 -- Laws of the machine of numbers.
+pub mod Machine
