@@ -1,2 +1,3 @@
 -- Laws of the machine of numbers.
 pub mod Machine
+pub mod Turn
