@@ -174,10 +174,7 @@ fn number_from(rest: &[u8], start: NumberState) -> NumberScan
             }
         }
     }
-    NumberScan::Eof {
-        state,
-        size: i,
-    }
+    NumberScan::Eof { state, size: i }
 }
 
 // A number or an error in one: the first byte is a digit or `-`.
