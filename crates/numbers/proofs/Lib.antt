@@ -1,1 +1,4 @@
 -- Laws of the machine of numbers.
+pub mod Machine
+pub mod Turn
+pub mod Unique

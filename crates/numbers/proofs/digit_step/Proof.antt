@@ -1,0 +1,88 @@
+-- `numbers::digit_step` meets its contract: the state's case, and the test in it. Assumes nothing.
+use borrow.Author.Needs.{needs}
+use Rattle.base.proofs.Rules.{tests}
+use Rattle.numbers.specs.Number.{digitStep}
+use Rattle.numbers.proofs.digit_step.Statement.{statement}
+use Rattle.numbers.proofs.digit_step.Tie as tie
+
+enum-told : tie.Need-enum-told
+enum-told c = search needs
+
+returns : tie.Need-returns
+unfolding digitStep
+returns c = search (needs, tests, c .before .enum-told .given .1)
+
+enum-told-2 : tie.Need-enum-told-2
+enum-told-2 c = search needs
+
+enum-told-3 : tie.Need-enum-told-3
+enum-told-3 c = search needs
+
+enum-told-4 : tie.Need-enum-told-4
+enum-told-4 c = search needs
+
+enum-told-5 : tie.Need-enum-told-5
+enum-told-5 c = search needs
+
+enum-told-6 : tie.Need-enum-told-6
+enum-told-6 c = search needs
+
+enum-told-7 : tie.Need-enum-told-7
+enum-told-7 c = search needs
+
+enum-told-8 : tie.Need-enum-told-8
+enum-told-8 c = search needs
+
+returns-2 : tie.Need-returns-2
+unfolding digitStep
+returns-2 c = search (needs, tests, c .before .enum-told .given .1)
+
+returns-3 : tie.Need-returns-3
+unfolding digitStep
+returns-3 c = search (needs, tests, c .enum-told2 .given .1)
+
+returns-4 : tie.Need-returns-4
+unfolding digitStep
+returns-4 c = search (needs, tests, c .enum-told3 .given .1)
+
+returns-5 : tie.Need-returns-5
+unfolding digitStep
+returns-5 c = search (needs, tests, c .enum-told4 .given .1)
+
+returns-6 : tie.Need-returns-6
+unfolding digitStep
+returns-6 c = search (needs, tests, c .enum-told5 .given .1)
+
+returns-7 : tie.Need-returns-7
+unfolding digitStep
+returns-7 c = search (needs, tests, c .enum-told6 .given .1)
+
+returns-8 : tie.Need-returns-8
+unfolding digitStep
+returns-8 c = search (needs, tests, c .enum-told7 .given .1)
+
+returns-9 : tie.Need-returns-9
+unfolding digitStep
+returns-9 c = search (needs, tests, c .enum-told8 .given .1)
+
+pub digit-step-spec : {M : Type 1} → statement M
+digit-step-spec =
+    tie.close
+    (tie.spec
+    enum-told
+    returns
+    enum-told-2
+    enum-told-3
+    enum-told-4
+    enum-told-5
+    enum-told-6
+    enum-told-7
+    enum-told-8
+    returns-2
+    returns-3
+    returns-4
+    returns-5
+    returns-6
+    returns-7
+    returns-8
+    returns-9)
