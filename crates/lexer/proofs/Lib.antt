@@ -1,3 +1,4 @@
 -- Laws of the scanners.
 pub mod Blanks
 pub mod Fronts
+pub mod Steps

@@ -1,2 +1,3 @@
 -- What the contracts of the lexer cite.
 pub mod Scan
+pub mod Cursor

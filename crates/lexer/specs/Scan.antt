@@ -1,8 +1,14 @@
 -- What the scanners' answers mean: document 01's number and values for each case. Assumes nothing: these are definitions.
-use Prim.Native.Nat.{ℕ, _+_}
+use Prim.Native.Nat.{ℕ, _+_, _-_}
+use lib.Dec.{ltb}
+use Rattle.base.specs.Text.{pick}
 use Rattle.base.specs.Item.{Lexeme, lexeme}
+use Rattle.numbers.specs.Number as numbers
+use Rattle.strings.specs.String as strings
 use Rattle.lexer.specs.declared.state.State.{State}
 use Rattle.lexer.specs.declared.state.State.the-variants as state
+use Rattle.lexer.specs.declared.state.Lexed.{Lexed}
+use Rattle.lexer.specs.declared.state.Lexed.the-variants as lexed
 use Rattle.lexer.specs.declared.state.Scan.{Scan}
 use Rattle.lexer.specs.declared.state.Scan.the-variants as scan
 
@@ -13,10 +19,25 @@ endOf state.Ident = 18
 endOf state.Whitespace = 1
 endOf state.Comment = 2
 endOf state.SpreadOperator = 64 + 10
+endOf (state.Number s) = numbers.endOf s
+endOf (state.String s) = strings.endOf s
 
--- the item that a scanner found, where no fault is kept
-abbrev pub meaning : Scan → Lexeme
-meaning (scan.Token kind size) = lexeme kind size
-meaning (scan.Done kind size) = lexeme kind size
-meaning (scan.Error fault size) = lexeme (64 + fault) size
-meaning (scan.Eof s size) = lexeme (endOf s) size
+-- an item as what is found: a token by its code, or an error, whose code is 64 + error
+unfoldable pub lexedOf : Lexeme → Lexed
+lexedOf x = pick (ltb (x .code) 64) (lexed.Token (x .code) (x .size)) (lexed.Error (x .code - 64) (x .size))
+
+-- document 01's code of what was found
+abbrev pub codeOf : Lexed → ℕ
+codeOf (lexed.Token kind size) = kind
+codeOf (lexed.Error fault size) = 64 + fault
+
+abbrev pub sizeOf : Lexed → ℕ
+sizeOf (lexed.Token kind size) = size
+sizeOf (lexed.Error fault size) = size
+
+-- what a scanner found, where no fault is kept
+abbrev pub meaning : Scan → Lexed
+meaning (scan.Token kind size) = lexed.Token kind size
+meaning (scan.Done kind size) = lexed.Token kind size
+meaning (scan.Error fault size) = lexed.Error fault size
+meaning (scan.Eof s size) = lexedOf (lexeme (endOf s) size)

@@ -3,17 +3,17 @@
 use crate::state::Scan;
 use crate::state::State;
 ghost use mathlib.Core.Path.{_≡_};
-ghost use mathlib.Core.Bool.{true, false};
+ghost use mathlib.Core.Bool.{true, false, _||_};
 ghost use Prim.Native.Nat.{_<_};
 ghost use lib.Dec.{eqb};
 ghost use lib.ListN.{length, getD};
 ghost use Rattle.base.specs.Run.{run};
-ghost use Rattle.rules.specs.Classes.{nameStart, nameContinue, notLineEnd};
+ghost use Rattle.rules.specs.Classes.{digit, nameStart, nameContinue, notLineEnd};
 ghost use Rattle.rules.specs.Tokens.{blankBy, blank, blanks};
 ghost use Rattle.rules.specs.Items.{itemAt};
 ghost use Rattle.base.specs.Item.{lexeme};
 ghost use Rattle.lookup.specs.Class.{classOf};
-ghost use Rattle.lexer.specs.Scan.{endOf, meaning};
+ghost use Rattle.lexer.specs.Scan.{endOf, lexedOf, meaning};
 
 // How many bytes at the front of s continue a name.
 fn name_run(s: &[u8]) -> usize
@@ -82,7 +82,8 @@ fn blank_run(s: &[u8]) -> usize
 // A token of n bytes that ends before a byte that does not belong to it, or at the text's end.
 fn ends(rest: &[u8], kind: u8, state: State, n: usize) -> Scan
     requires { ⌜ endOf state ≡ kind ⌝ }
-    ensures { λ r. ⌜ meaning r ≡ lexeme kind n ⌝ }
+    requires { ⌜ kind < 64 ⌝ }
+    ensures { λ r. ⌜ meaning r ≡ lexedOf (lexeme kind n) ⌝ }
 {
     if n == rest.len() {
         return Scan::Eof { state, size: n };
@@ -94,7 +95,7 @@ fn ends(rest: &[u8], kind: u8, state: State, n: usize) -> Scan
 fn ident(rest: &[u8]) -> Scan
     requires { ⌜ 0 < length (now rest) ⌝ }
     requires { ⌜ nameStart (getD (now rest) 0 0) ≡ true ⌝ }
-    ensures { λ r. ⌜ meaning r ≡ itemAt (now (rest .entry)) ⌝ }
+    ensures { λ r. ⌜ meaning r ≡ lexedOf (itemAt (now (rest .entry))) ⌝ }
 {
     let n = name_run(&rest[1..]);
     ends(rest, 18, State::Ident, 1 + n)
@@ -104,7 +105,7 @@ fn ident(rest: &[u8]) -> Scan
 fn comment(rest: &[u8]) -> Scan
     requires { ⌜ 0 < length (now rest) ⌝ }
     requires { ⌜ getD (now rest) 0 0 ≡ 35 ⌝ }
-    ensures { λ r. ⌜ meaning r ≡ itemAt (now (rest .entry)) ⌝ }
+    ensures { λ r. ⌜ meaning r ≡ lexedOf (itemAt (now (rest .entry))) ⌝ }
 {
     let n = line_run(&rest[1..]);
     ends(rest, 2, State::Comment, 1 + n)
@@ -113,7 +114,7 @@ fn comment(rest: &[u8]) -> Scan
 // Whitespace: a blank stands at the front.
 fn whitespace(rest: &[u8]) -> Scan
     requires { ⌜ 0 < blank (now rest) ⌝ }
-    ensures { λ r. ⌜ meaning r ≡ itemAt (now (rest .entry)) ⌝ }
+    ensures { λ r. ⌜ meaning r ≡ lexedOf (itemAt (now (rest .entry))) ⌝ }
 {
     let n = blank_run(rest);
     ends(rest, 1, State::Whitespace, n)
@@ -123,7 +124,7 @@ fn whitespace(rest: &[u8]) -> Scan
 fn spread_operator(rest: &[u8]) -> Scan
     requires { ⌜ 0 < length (now rest) ⌝ }
     requires { ⌜ getD (now rest) 0 0 ≡ 46 ⌝ }
-    ensures { λ r. ⌜ meaning r ≡ itemAt (now (rest .entry)) ⌝ }
+    ensures { λ r. ⌜ meaning r ≡ lexedOf (itemAt (now (rest .entry))) ⌝ }
 {
     let n = rest.len();
     if n == 1 {
@@ -154,7 +155,7 @@ fn spread_operator(rest: &[u8]) -> Scan
 fn other(rest: &[u8]) -> Scan
     requires { ⌜ 0 < length (now rest) ⌝ }
     requires { ⌜ classOf (getD (now rest) 0 0) ≡ 0 ⌝ }
-    ensures { λ r. ⌜ meaning r ≡ itemAt (now (rest .entry)) ⌝ }
+    ensures { λ r. ⌜ meaning r ≡ lexedOf (itemAt (now (rest .entry))) ⌝ }
 {
     if blank_at(rest) == 0 {
         return Scan::Error {
@@ -163,4 +164,48 @@ fn other(rest: &[u8]) -> Scan
         };
     }
     whitespace(rest)
+}
+
+// A number or an error in one: the first byte is a digit or `-`.
+fn number(rest: &[u8]) -> Scan
+    requires { ⌜ 0 < length (now rest) ⌝ }
+    requires { ⌜ digit (getD (now rest) 0 0) || eqb (getD (now rest) 0 0) 45 ≡ true ⌝ }
+    ensures { λ r. ⌜ meaning r ≡ lexedOf (itemAt (now (rest .entry))) ⌝ }
+{
+    match numbers::number(rest) {
+        numbers::NumberScan::Done { kind, size } => Scan::Done { kind, size },
+        numbers::NumberScan::Error { fault, size } => Scan::Error { fault, size },
+        numbers::NumberScan::Eof { state, size } => Scan::Eof {
+            state: State::Number(state),
+            size,
+        },
+    }
+}
+
+// What stands at the front of a suffix that is not empty and does not begin with a quote.
+pub fn scan(rest: &[u8]) -> Scan
+    requires { ⌜ 0 < length (now rest) ⌝ }
+    requires { ⌜ eqb (getD (now rest) 0 0) 34 ≡ false ⌝ }
+    ensures { λ r. ⌜ meaning r ≡ lexedOf (itemAt (now (rest .entry))) ⌝ }
+{
+    let kind = lookup::class(rest[0]);
+    if kind == 18 {
+        return ident(rest);
+    }
+    if kind == 1 {
+        return whitespace(rest);
+    }
+    if kind == 0 {
+        return other(rest);
+    }
+    if kind == 2 {
+        return comment(rest);
+    }
+    if kind == 9 {
+        return spread_operator(rest);
+    }
+    if kind >= 20 {
+        return number(rest);
+    }
+    Scan::Token { kind, size: 1 }
 }

@@ -1,5 +1,5 @@
 -- The class of a byte tells which token can begin with it, and the other way round. Assumes nothing.
-use Prim.Native.Nat.{ℕ, _≤_}
+use Prim.Native.Nat.{ℕ, _≤_, _<_}
 use mathlib.Core.Path.{_≡_, refl, sym, _∙_}
 use mathlib.Core.Bool.{Bool, true, false, _||_}
 use mathlib.Core.List.{List, [], _∷_}
@@ -184,3 +184,62 @@ name-continues b e = rw (class-name b e)
 pub digit-continues : (b : ℕ) → (classOf b ≡ 18 → ⊥) → eqb (classOf b) 20 ≡ nameContinue b
 unfolding nameContinue
 digit-continues b n = rw (refuted (nameStart b) (λ e. n (name-class b e))) (test-digit b)
+
+is-hash : {b k : ℕ} → Is b k → k ≡ 2 → b ≡ 35
+is-hash (name n) e = absurd (omega arith)
+is-hash (number n d) e = absurd (omega arith)
+is-hash (blank w) e = absurd (omega arith)
+is-hash quote e = absurd (omega arith)
+is-hash hash e = refl
+is-hash minus e = absurd (omega arith)
+is-hash dot e = absurd (omega arith)
+is-hash (punctuator s) e = let c = punctuator-code s in absurd (omega arith)
+is-hash (other n d w q h m p z) e = absurd (omega arith)
+
+is-dot : {b k : ℕ} → Is b k → k ≡ 9 → b ≡ 46
+is-dot (name n) e = absurd (omega arith)
+is-dot (number n d) e = absurd (omega arith)
+is-dot (blank w) e = absurd (omega arith)
+is-dot quote e = absurd (omega arith)
+is-dot hash e = absurd (omega arith)
+is-dot minus e = absurd (omega arith)
+is-dot dot e = refl
+is-dot (punctuator s) e = let c = punctuator-code s in absurd (c .2 e)
+is-dot (other n d w q h m p z) e = absurd (omega arith)
+
+is-number : {b k : ℕ} → Is b k → 20 ≤ k → digit b || eqb b 45 ≡ true
+unfolding digit
+is-number (name n) e = absurd (omega arith)
+is-number (number n d) e = rw d
+is-number (blank w) e = absurd (omega arith)
+is-number quote e = absurd (omega arith)
+is-number hash e = absurd (omega arith)
+is-number minus e = refl
+is-number dot e = absurd (omega arith)
+is-number (punctuator s) e = let c = punctuator-code s in absurd (omega arith)
+is-number (other n d w q h m p z) e = absurd (omega arith)
+
+-- what is none of the classes that are tested by themselves is a punctuator's
+is-mark : {b k : ℕ} → Is b k → eqb b 34 ≡ false → (k ≡ 18 → ⊥) → (k ≡ 1 → ⊥) → (k ≡ 0 → ⊥) → (k ≡ 2 → ⊥) → k < 20 → (3 ≤ k) × (k ≤ 17)
+is-mark (name n) q a b c d e = absurd (a refl)
+is-mark (number n m) q a b c d e = absurd (omega arith)
+is-mark (blank w) q a b c d e = absurd (b refl)
+is-mark quote q a b c d e = let z : _≡_ {A = ℕ} 0 1 = cc in absurd (omega arith)
+is-mark hash q a b c d e = absurd (d refl)
+is-mark minus q a b c d e = absurd (omega arith)
+is-mark dot q a b c d e = (omega arith, omega arith)
+is-mark (punctuator s) q a b c d e = let h = punctuator-code s in (omega arith, omega arith)
+is-mark (other n m w x h i p z) q a b c d e = absurd (c refl)
+
+pub class-hash : (b : ℕ) → classOf b ≡ 2 → b ≡ 35
+class-hash b e = is-hash (view b) e
+
+pub class-dot : (b : ℕ) → classOf b ≡ 9 → b ≡ 46
+class-dot b e = is-dot (view b) e
+
+pub class-number : (b k : ℕ) → classOf b ≡ k → 20 ≤ k → digit b || eqb b 45 ≡ true
+class-number b k e l = is-number (view b) (omega arith)
+
+pub class-bounds : (b k : ℕ) → classOf b ≡ k → eqb b 34 ≡ false → (k ≡ 18 → ⊥) → (k ≡ 1 → ⊥) → (k ≡ 0 → ⊥) → (k ≡ 2 → ⊥) → k < 20 → (3 ≤ k) × (k ≤ 17)
+class-bounds b k e q a x c d l =
+    rw e at (is-mark (view b) q (λ z. a (sym e ∙ z)) (λ z. x (sym e ∙ z)) (λ z. c (sym e ∙ z)) (λ z. d (sym e ∙ z)) (omega arith))

@@ -2,3 +2,4 @@
 pub mod Machine
 pub mod Turn
 pub mod Unique
+pub mod Tokens

@@ -1,6 +1,6 @@
 -- What the answers mean, and the machine of numbers that the code runs: proved to give the items of document 01, the machine need not be
 -- believed. Assumes nothing: these are definitions.
-use Prim.Native.Nat.{ℕ, zero, suc, _+_}
+use Prim.Native.Nat.{ℕ, suc, _+_, _<_}
 use mathlib.Core.Bool.{Bool, true, false}
 use mathlib.Core.List.{List, [], _∷_}
 use lib.Dec.{eqb}
@@ -31,6 +31,12 @@ abbrev pub meaning : NumberScan → Lexeme
 meaning (scan.Done kind size) = lexeme kind size
 meaning (scan.Error fault size) = lexeme (64 + fault) size
 meaning (scan.Eof state size) = lexeme (endOf state) size
+
+-- what ends before a byte is a token, not an error
+abbrev pub IsToken : NumberScan → Type 0
+IsToken (scan.Done kind size) = kind < 64
+IsToken (scan.Error fault size) = Unit {0}
+IsToken (scan.Eof state size) = Unit {0}
 
 -- after the integer part, of which the byte does not continue the digits
 unfoldable pub afterInteger : ℕ → NumberStep

@@ -6,7 +6,7 @@ ghost use lib.Dec.{eqb};
 ghost use lib.ListN.{length, drop, getD};
 ghost use Rattle.rules.specs.Classes.{digit, exponentMark};
 ghost use Rattle.rules.specs.Items.{itemAt};
-ghost use Rattle.numbers.specs.Number.{meaning, afterInteger, afterFloat, digitStep, otherStep, stepOf, kindOf, scanFrom};
+ghost use Rattle.numbers.specs.Number.{meaning, IsToken, afterInteger, afterFloat, digitStep, otherStep, stepOf, kindOf, scanFrom};
 
 // In which state a number is.
 pub enum NumberState {
@@ -150,7 +150,8 @@ fn number_kind(state: NumberState) -> u8
 // A number whose first byte has led to the state.
 fn number_from(rest: &[u8], start: NumberState) -> NumberScan
     requires { ⌜ 0 < length (now rest) ⌝ }
-    ensures { λ r. ⌜ meaning r ≡ scanFrom start 1 (drop 1 (now (rest .entry))) ⌝ }
+    ensures item { λ r. ⌜ meaning r ≡ scanFrom start 1 (drop 1 (now (rest .entry))) ⌝ }
+    ensures kind { λ r. ⌜ IsToken r ⌝ }
 {
     let mut state = start;
     let mut i = 1;
@@ -181,7 +182,8 @@ fn number_from(rest: &[u8], start: NumberState) -> NumberScan
 pub fn number(rest: &[u8]) -> NumberScan
     requires { ⌜ 0 < length (now rest) ⌝ }
     requires { ⌜ digit (getD (now rest) 0 0) || eqb (getD (now rest) 0 0) 45 ≡ true ⌝ }
-    ensures { λ r. ⌜ meaning r ≡ itemAt (now (rest .entry)) ⌝ }
+    ensures item { λ r. ⌜ meaning r ≡ itemAt (now (rest .entry)) ⌝ }
+    ensures kind { λ r. ⌜ IsToken r ⌝ }
 {
     let b = rest[0];
     if b == b'-' {

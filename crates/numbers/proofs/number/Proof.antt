@@ -14,7 +14,7 @@ number-from-requires c κs = search needs
 returns : tie.Need-returns
 returns c =
     let start = c .before .before .before .before in
-    c .number-from .ensures ∙ machine-minus _ (start .pre .0) (c .before .if1 .taken)
+    (c .number-from .ensures .0 ∙ machine-minus _ (start .pre .0) (c .before .if1 .taken), c .number-from .ensures .1)
 
 number-from-requires-2 : tie.Need-number-from-requires-2
 number-from-requires-2 c κs = search needs
@@ -22,7 +22,7 @@ number-from-requires-2 c κs = search needs
 returns-2 : tie.Need-returns-2
 returns-2 c =
     let start = c .before .before .before .before .before in
-    c .number-from2 .ensures ∙ machine-zero _ (start .pre .0) (c .before .if2 .taken)
+    (c .number-from2 .ensures .0 ∙ machine-zero _ (start .pre .0) (c .before .if2 .taken), c .number-from2 .ensures .1)
 
 number-from-requires-3 : tie.Need-number-from-requires-3
 number-from-requires-3 c κs = search needs
@@ -30,7 +30,10 @@ number-from-requires-3 c κs = search needs
 returns-3 : tie.Need-returns-3
 returns-3 c =
     let start = c .before .before .before .before .before in
-    c .number-from3 .ensures ∙ machine-nonzero _ (start .pre .0) (start .pre .1) (c .before .before .if1 .left) (c .before .if2 .left)
+    (
+      c .number-from3 .ensures .0 ∙ machine-nonzero _ (start .pre .0) (start .pre .1) (c .before .before .if1 .left) (c .before .if2 .left),
+      c .number-from3 .ensures .1,
+    )
 
 pub number-spec : {M : Type 1} → statement M
 number-spec =

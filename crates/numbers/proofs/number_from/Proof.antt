@@ -6,6 +6,7 @@ use native.Mathlib.Omega.{arith}
 use borrow.Author.Needs.{needs}
 use lib.ListN.{length}
 use Rattle.numbers.proofs.Turn.{Passed, begin, turn, done, ended, error-fits, failed}
+use Rattle.numbers.proofs.Tokens.{kind-small}
 use Rattle.numbers.proofs.number_from.Statement.{statement}
 use Rattle.numbers.proofs.number_from.Tie as tie
 
@@ -47,8 +48,11 @@ number-kind-requires c κs = search needs
 returns : tie.Need-returns Inv-loop μ-loop
 returns c =
     let at-step = c .before .before .before in
-    done _ _ _ _ (at-step .before .before .before .loop .inv) _ (at-step .before .before .loop-test .taken) (sym (at-step .number-step .ensures) ∙ c .before .enum-told .given .1)
-    (c .number-kind .ensures)
+    let k = kind-small (at-step .before .before .before .loop .state) in (
+      done _ _ _ _ (at-step .before .before .before .loop .inv) _ (at-step .before .before .loop-test .taken)
+          (sym (at-step .number-step .ensures) ∙ c .before .enum-told .given .1) (c .number-kind .ensures),
+      omega (arith, c .number-kind .ensures),
+    )
 
 enum-known-fault : tie.Need-enum-known-fault Inv-loop μ-loop
 enum-known-fault c = search needs
@@ -71,11 +75,14 @@ add-t18 c = let f = error-fits _ _ _ _ (c .before .before .before .before .befor
 returns-2 : tie.Need-returns-2 Inv-loop μ-loop
 returns-2 c =
     let at-step = c .before .before .before .before .before in
-    failed _ _ _ _ (at-step .before .before .before .loop .inv) _ (c .size-at .ensures) _ (at-step .before .before .loop-test .taken)
-    (sym (at-step .number-step .ensures) ∙ c .before .before .before .fault .given .1)
+    (
+      failed _ _ _ _ (at-step .before .before .before .loop .inv) _ (c .size-at .ensures) _ (at-step .before .before .loop-test .taken)
+          (sym (at-step .number-step .ensures) ∙ c .before .before .before .fault .given .1),
+      tt,
+    )
 
 returns-3 : tie.Need-returns-3 Inv-loop μ-loop
-returns-3 c = ended _ _ _ _ (c .before .loop .inv) (c .loop-test .left)
+returns-3 c = (ended _ _ _ _ (c .before .loop .inv) (c .loop-test .left), tt)
 
 pub number-from-spec : {M : Type 1} → statement M
 number-from-spec =

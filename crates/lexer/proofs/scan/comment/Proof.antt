@@ -3,6 +3,7 @@ use mathlib.Core.Path.{_≡_, refl, sym, ap, _∙_}
 use Prim.Native.Nat.{ℕ, _+_}
 use native.Mathlib.Omega.{arith}
 use Rattle.base.specs.Item.{lexeme}
+use Rattle.lexer.specs.Scan.{lexedOf}
 use Rattle.rules.specs.Classes.{notLineEnd}
 use Rattle.lexer.proofs.Fronts.{comment-item, tail-run, tail-fits}
 use borrow.Author.Needs.{needs}
@@ -30,8 +31,8 @@ ends-requires c κs = search needs
 returns : tie.Need-returns
 returns c =
     c .ends .ensures
-    ∙ ap (λ (n : ℕ). lexeme 2 (1 + n)) (tail-run notLineEnd (c .before .before .before .before .args .rest .now) (c .before .line-run .result) (c .before .before .before .before .pre .0) (c .before .line-run .ensures))
-    ∙ sym (comment-item (c .before .before .before .before .args .rest .now) (c .before .before .before .before .pre .0) (c .before .before .before .before .pre .1))
+    ∙ ap (λ (n : ℕ). lexedOf (lexeme 2 (1 + n))) (tail-run notLineEnd (c .before .before .before .before .args .rest .now) (c .before .line-run .result) (c .before .before .before .before .pre .0) (c .before .line-run .ensures))
+    ∙ sym (ap lexedOf (comment-item (c .before .before .before .before .args .rest .now) (c .before .before .before .before .pre .0) (c .before .before .before .before .pre .1)))
 
 pub comment-spec : {M : Type 1} → statement M
 comment-spec =

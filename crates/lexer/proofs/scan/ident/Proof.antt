@@ -3,6 +3,7 @@ use mathlib.Core.Path.{_≡_, refl, sym, ap, _∙_}
 use Prim.Native.Nat.{ℕ, _+_}
 use native.Mathlib.Omega.{arith}
 use Rattle.base.specs.Item.{lexeme}
+use Rattle.lexer.specs.Scan.{lexedOf}
 use Rattle.rules.specs.Classes.{nameContinue}
 use Rattle.lexer.proofs.Fronts.{name-item, tail-run, tail-fits}
 use borrow.Author.Needs.{needs}
@@ -30,8 +31,8 @@ ends-requires c κs = search needs
 returns : tie.Need-returns
 returns c =
     c .ends .ensures
-    ∙ ap (λ (n : ℕ). lexeme 18 (1 + n)) (tail-run nameContinue (c .before .before .before .before .args .rest .now) (c .before .name-run .result) (c .before .before .before .before .pre .0) (c .before .name-run .ensures))
-    ∙ sym (name-item (c .before .before .before .before .args .rest .now) (c .before .before .before .before .pre .0) (c .before .before .before .before .pre .1))
+    ∙ ap (λ (n : ℕ). lexedOf (lexeme 18 (1 + n))) (tail-run nameContinue (c .before .before .before .before .args .rest .now) (c .before .name-run .result) (c .before .before .before .before .pre .0) (c .before .name-run .ensures))
+    ∙ sym (ap lexedOf (name-item (c .before .before .before .before .args .rest .now) (c .before .before .before .before .pre .0) (c .before .before .before .before .pre .1)))
 
 pub ident-spec : {M : Type 1} → statement M
 ident-spec =

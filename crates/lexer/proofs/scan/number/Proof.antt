@@ -1,0 +1,39 @@
+-- `lexer::scan::number` meets its contract, case by case. Assumes nothing.
+use mathlib.Core.Path.{_≡_, refl, sym, ap, _∙_}
+use Rattle.numbers.specs.Number.{meaning}
+use borrow.Author.Needs.{needs}
+use Rattle.lexer.proofs.scan.number.Statement.{statement}
+use Rattle.lexer.proofs.scan.number.Tie as tie
+
+number-requires : tie.Need-number-requires
+number-requires c κs = search needs
+
+enum-known-kind : tie.Need-enum-known-kind
+enum-known-kind c = search needs
+
+enum-known-fault : tie.Need-enum-known-fault
+enum-known-fault c = search needs
+
+enum-known-state : tie.Need-enum-known-state
+enum-known-state c = search needs
+
+returns : tie.Need-returns
+returns c = sym (ap meaning (c .before .kind .given .1)) ∙ c .before .before .before .number .ensures
+
+returns-2 : tie.Need-returns-2
+returns-2 c = sym (ap meaning (c .before .fault .given .1)) ∙ c .before .before .before .number .ensures
+
+returns-3 : tie.Need-returns-3
+returns-3 c = sym (ap meaning (c .before .state .given .1)) ∙ c .before .before .before .number .ensures
+
+pub number-spec : {M : Type 1} → statement M
+number-spec =
+    tie.close
+    (tie.spec
+    number-requires
+    enum-known-kind
+    enum-known-fault
+    enum-known-state
+    returns
+    returns-2
+    returns-3)
