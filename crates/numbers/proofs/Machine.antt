@@ -13,7 +13,7 @@ use Rattle.base.specs.Text.{pick, from, All, Optional, missing, given}
 use Rattle.base.proofs.Tests.{or-true, from-true, from-below}
 use Rattle.utf8.specs.Sequence.{width, size}
 use Rattle.rules.specs.Classes.{digit, nonzero, letter, nameStart, exponentMark, sign, afterNumber, pointOrName}
-use Rattle.rules.specs.Rules.{Digits, digits, IntegerPart, unsigned, FractionalPart, SignedDigits, plain, signed, ExponentPart, mark, FloatValue, fraction, exponent, both, int, float}
+use Rattle.rules.specs.Rules.{Digits, digits, IntegerPart, unsigned, FractionalPart, plain, signed, ExponentPart, mark, FloatValue, fraction, exponent, both, int, float}
 use Rattle.rules.specs.Rules
 use Rattle.rules.specs.Errors.{LeadingZero, nought, minusNought, toPoint, toMark, toSign, Fault, secondDigit, suffix, noFraction, afterFraction, afterExponent, noExponent, noSigned, ended, Stands, token, error}
 use Rattle.rules.specs.Errors
@@ -26,14 +26,16 @@ use Rattle.numbers.specs.declared.NumberStep.{NumberStep}
 use Rattle.numbers.specs.declared.NumberStep.the-variants.{Go, Done, Error}
 use Rattle.numbers.specs.Number.{endOf, afterInteger, afterFloat, digitStep, otherStep, stepOf, kindOf, scanBy, scanFrom}
 
--- a byte that may not follow a number is a character of its own
+-- a byte of ASCII is a character of its own
 low-one : (b : ℕ) (r : List ℕ) → b ≤ 127 → size (b ∷ r) ≡ 1
 unfolding size width
 low-one b r h = rw (from-below 194 223 b (omega arith), from-below 224 239 b (omega arith), from-below 240 244 b (omega arith)) (omega arith)
 
+-- so is a digit
 digit-one : (b : ℕ) (r : List ℕ) → digit b ≡ true → size (b ∷ r) ≡ 1
 digit-one b r e = let h = digit-range b e in low-one b r (omega arith)
 
+-- and a name start
 name-one : (b : ℕ) (r : List ℕ) → nameStart b ≡ true → size (b ∷ r) ≡ 1
 unfolding nameStart letter
 name-one b r e =
@@ -41,17 +43,20 @@ name-one b r e =
     (λ h. or-true (from 65 90 b) (from 97 122 b) h (λ g. let k = from-true 65 90 b g in low-one b r (omega arith)) (λ g. let k = from-true 97 122 b g in low-one b r (omega arith)))
     (λ h. let k = eqb-true b 95 h in low-one b r (omega arith))
 
--- a part, and one digit more
+-- digits, and one digit more
 all-more : (a : List ℕ) (b : ℕ) → All digit a → digit b ≡ true → All digit (a ++ (b ∷ []))
 all-more [] b h d = (d, tt)
 all-more (x ∷ a) b h d = (h .0, all-more a b (h .1) d)
 
+-- Digit+, and one digit more
 digits-more : {a : List ℕ} (b : ℕ) → Digits a → digit b ≡ true → Digits (a ++ (b ∷ []))
 digits-more b (digits {a = a} h g) d = digits h (all-more a b g d)
 
+-- a fraction, and one digit more
 fraction-more : {a : List ℕ} (b : ℕ) → FractionalPart a → digit b ≡ true → FractionalPart (a ++ (b ∷ []))
 fraction-more b (Rules.point h) d = Rules.point (digits-more b h d)
 
+-- an exponent, and one digit more
 exponent-more : {a : List ℕ} (b : ℕ) → ExponentPart a → digit b ≡ true → ExponentPart (a ++ (b ∷ []))
 exponent-more b (mark m (plain h)) d = mark m (plain (digits-more b h d))
 exponent-more b (mark m (signed s h)) d = mark m (signed s (digits-more b h d))
@@ -109,10 +114,12 @@ after-float s p b r k h d w =
     (λ e. tested (nameStart b) (λ n. fails (rw (name-one b r n) (w (rw (e, n)))))
     (λ n. ends (rw k (token (float p (b ∷ r) h (rw (d, e, n)))))))
 
+-- a leading zero is an integer part
 leading-integer : {a : List ℕ} → LeadingZero a → IntegerPart a
 leading-integer nought = unsigned Rules.nought
 leading-integer minusNought = Rules.minus Rules.nought
 
+-- a number with an exponent is a FloatValue
 exponent-float : {i f e : List ℕ} → IntegerPart i → Optional FractionalPart f → ExponentPart e → FloatValue (i ++ (f ++ e))
 exponent-float {i} {f} {e} h missing k = exponent i e h k
 exponent-float {i} {f} {e} h (given g) k = both i f e h g k
@@ -158,6 +165,7 @@ other-right b r (exponentDigit i f e h g k) d =
     after-float state.ExponentDigit (i ++ (f ++ e)) b r refl (exponent-float h g k) d
     (λ w. moved (regroup i f e (b ∷ r)) (simp length-append (omega arith)) (afterExponent i f e (b ∷ r) h g k w))
 
+-- so each step is right
 step-right : {s : NumberState} {p : List ℕ} (b : ℕ) (r : List ℕ) → Form s p → Right s p b r (stepOf s b)
 unfolding stepOf
 step-right b r h = tested (digit b) (digit-right b r h) (other-right b r h)
@@ -188,15 +196,17 @@ scan-right {s} {p} (b ∷ r) h = go (step-right b r h) (λ next k. scan-right {s
     go (ends k) ih = k
     go (fails k) ih = error k
 
--- the machine of a text t that starts with `-`, with `0`, or with another digit
+-- what the machine gives of a text that starts with `-` is its item
 pub machine-minus : (t : List ℕ) → 0 < length t → getD t 0 0 ≡ 45 → scanFrom state.MinusSign 1 (drop 1 t) ≡ itemAt t
 machine-minus [] l e = absurd (omega arith)
 machine-minus (b ∷ r) l e = rw e (sym (item-complete (scan-right r minusSign)))
 
+-- and so of one that starts with `0`
 pub machine-zero : (t : List ℕ) → 0 < length t → getD t 0 0 ≡ 48 → scanFrom state.LeadingZero 1 (drop 1 t) ≡ itemAt t
 machine-zero [] l e = absurd (omega arith)
 machine-zero (b ∷ r) l e = rw e (sym (item-complete (scan-right r (leadingZero nought))))
 
+-- and of one that starts with another digit
 pub machine-nonzero : (t : List ℕ) → 0 < length t → (digit (getD t 0 0) || eqb (getD t 0 0) 45) ≡ true → (getD t 0 0 ≡ 45 → ⊥) → (getD t 0 0 ≡ 48 → ⊥)
     → scanFrom state.IntegerPart 1 (drop 1 t) ≡ itemAt t
 machine-nonzero [] l e m z = absurd (omega arith)

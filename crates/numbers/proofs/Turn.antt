@@ -1,12 +1,12 @@
 -- The loop that reads a number, on plain values: where it begins, one turn, and each way out. Assumes nothing.
-use Prim.Native.Nat.{ℕ, suc, _+_, _-_, _≤_, _<_}
+use Prim.Native.Nat.{ℕ, _+_, _-_, _≤_, _<_}
 use mathlib.Core.Path.{_≡_, refl, sym, ap, _∙_}
-use mathlib.Core.List.{List, [], _∷_}
+use mathlib.Core.List.{List}
 use native.Mathlib.Numerals.{add-one}
 use native.Mathlib.Omega.{arith}
 use lib.ListN.{length, take, drop, getD, length-drop, drop-of-length-le}
 use lib.Seq.{drop-cons}
-use Rattle.base.specs.Item.{Lexeme, lexeme}
+use Rattle.base.specs.Item.{lexeme}
 use Rattle.base.proofs.Lists.{part-rest}
 use Rattle.utf8.specs.Sequence.{size}
 use Rattle.utf8.proofs.Characters.{size-le}
@@ -42,13 +42,16 @@ module _ (t : List ℕ) (start s : NumberState) (i : ℕ) (p : Passed t start s 
   unfolding scanFrom
   ended l = sym (p .same ∙ rw (drop-of-length-le t l))
 
-  -- an error, through the character of n bytes
+  -- an error, through the character at i, which has n bytes
   module _ (n : ℕ) (c : n ≡ size (take (length t - i) (drop i t))) where
+    -- the call tells of the character at i
     character : n ≡ size (drop i t)
     character = c ∙ ap size (part-rest t i (p .fits))
 
+    -- the error ends within the text
     pub error-fits : i + n ≤ length t
     error-fits = let l = size-le (drop i t) in let f = p .fits in let e = character in omega (arith, length-drop i t)
 
+    -- and it is the answer
     pub failed : (k : ℕ) → i < length t → stepOf s (getD t i 0) ≡ Error k → lexeme (64 + k) (i + n) ≡ scanFrom start 1 (drop 1 t)
     failed k l e = rw character (sym (rw e at (next-byte l)))

@@ -39,31 +39,31 @@ returns-2 c = search (needs, tests, c .before .enum-told .given .1)
 
 returns-3 : tie.Need-returns-3
 unfolding digitStep
-returns-3 c = search (needs, tests, c .enum-told2 .given .1)
+returns-3 c = rw (c .enum-told2 .given .1)
 
 returns-4 : tie.Need-returns-4
 unfolding digitStep
-returns-4 c = search (needs, tests, c .enum-told3 .given .1)
+returns-4 c = rw (c .enum-told3 .given .1)
 
 returns-5 : tie.Need-returns-5
 unfolding digitStep
-returns-5 c = search (needs, tests, c .enum-told4 .given .1)
+returns-5 c = rw (c .enum-told4 .given .1)
 
 returns-6 : tie.Need-returns-6
 unfolding digitStep
-returns-6 c = search (needs, tests, c .enum-told5 .given .1)
+returns-6 c = rw (c .enum-told5 .given .1)
 
 returns-7 : tie.Need-returns-7
 unfolding digitStep
-returns-7 c = search (needs, tests, c .enum-told6 .given .1)
+returns-7 c = rw (c .enum-told6 .given .1)
 
 returns-8 : tie.Need-returns-8
 unfolding digitStep
-returns-8 c = search (needs, tests, c .enum-told7 .given .1)
+returns-8 c = rw (c .enum-told7 .given .1)
 
 returns-9 : tie.Need-returns-9
 unfolding digitStep
-returns-9 c = search (needs, tests, c .enum-told8 .given .1)
+returns-9 c = rw (c .enum-told8 .given .1)
 
 pub digit-step-spec : {M : Type 1} → statement M
 digit-step-spec =

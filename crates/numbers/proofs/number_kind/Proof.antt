@@ -5,7 +5,6 @@ use Prim.Native.Nat.{ℕ}
 use denote.Enum.Declared.{tagOf}
 use types.Run.{OneOf, miss}
 use borrow.Author.Needs.{needs}
-use Rattle.base.proofs.Rules.{tests}
 use Rattle.numbers.specs.declared.NumberState.{NumberState}
 use Rattle.numbers.specs.declared.NumberState.the-variants.{MinusSign, LeadingZero, IntegerPart, DecimalPoint, FractionalPart, ExponentIndicator, ExponentSign, ExponentDigit}
 use Rattle.numbers.specs.Number.{kindOf}
@@ -37,11 +36,11 @@ enum-told-2 c = search needs
 
 returns : tie.Need-returns
 unfolding kindOf
-returns c = search (needs, tests, c .enum-told .given .1)
+returns c = rw (c .enum-told .given .1)
 
 returns-2 : tie.Need-returns-2
 unfolding kindOf
-returns-2 c = search (needs, tests, c .enum-told2 .given .1)
+returns-2 c = rw (c .enum-told2 .given .1)
 
 returns-3 : tie.Need-returns-3
 returns-3 c = other-kind _ (c .match .keys3)

@@ -59,7 +59,7 @@ after-float-requires-2 c κs = search needs
 
 returns-4 : tie.Need-returns-4
 unfolding otherStep
-returns-4 c = search (needs, tests, c .enum-told .given .1)
+returns-4 c = rw (c .enum-told .given .1)
 
 returns-5 : tie.Need-returns-5
 unfolding otherStep
@@ -71,7 +71,7 @@ returns-6 c = rw (c .before .enum-told3 .given .1) (c .after-integer2 .ensures)
 
 returns-7 : tie.Need-returns-7
 unfolding otherStep
-returns-7 c = search (needs, tests, c .enum-told4 .given .1)
+returns-7 c = rw (c .enum-told4 .given .1)
 
 returns-8 : tie.Need-returns-8
 unfolding otherStep
@@ -83,7 +83,7 @@ returns-9 c = search (needs, tests, c .before .before .enum-told6 .given .1)
 
 returns-10 : tie.Need-returns-10
 unfolding otherStep
-returns-10 c = search (needs, tests, c .enum-told7 .given .1)
+returns-10 c = rw (c .enum-told7 .given .1)
 
 returns-11 : tie.Need-returns-11
 unfolding otherStep
