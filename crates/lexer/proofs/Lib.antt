@@ -1,4 +1,6 @@
 -- Laws of the scanners.
 pub mod Blanks
 pub mod Fronts
+pub mod Lexed
 pub mod Steps
+pub mod Advance

@@ -29,8 +29,7 @@ number-from-requires-3 c κs = search needs
 
 returns-3 : tie.Need-returns-3
 returns-3 c =
-    let start = c .before .before .before .before .before in
-    (
+    let start = c .before .before .before .before .before in (
       c .number-from3 .ensures .0 ∙ machine-nonzero _ (start .pre .0) (start .pre .1) (c .before .before .if1 .left) (c .before .if2 .left),
       c .number-from3 .ensures .1,
     )

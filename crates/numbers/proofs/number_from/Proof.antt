@@ -74,8 +74,7 @@ add-t18 c = let f = error-fits _ _ _ _ (c .before .before .before .before .befor
 
 returns-2 : tie.Need-returns-2 Inv-loop μ-loop
 returns-2 c =
-    let at-step = c .before .before .before .before .before in
-    (
+    let at-step = c .before .before .before .before .before in (
       failed _ _ _ _ (at-step .before .before .before .loop .inv) _ (c .size-at .ensures) _ (at-step .before .before .loop-test .taken)
           (sym (at-step .number-step .ensures) ∙ c .before .before .before .fault .given .1),
       tt,

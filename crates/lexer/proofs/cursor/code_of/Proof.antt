@@ -1,7 +1,7 @@
 -- `lexer::cursor::code_of` meets its contract, case by case. Assumes nothing.
 use mathlib.Core.Path.{_≡_, refl, sym, ap, _∙_}
 use native.Mathlib.Omega.{arith}
-use Rattle.lexer.specs.Cursor.{codeOf}
+use Rattle.lexer.specs.Scan.{codeOf}
 use borrow.Author.Needs.{needs}
 use Rattle.lexer.proofs.cursor.code_of.Statement.{statement}
 use Rattle.lexer.proofs.cursor.code_of.Tie as tie

@@ -1,6 +1,8 @@
 -- `lexer::scan::number` meets its contract, case by case. Assumes nothing.
-use mathlib.Core.Path.{_≡_, refl, sym, ap, _∙_}
-use Rattle.numbers.specs.Number.{meaning}
+use mathlib.Core.Path.{_≡_, refl, sym, ap, _∙_, subst}
+use Rattle.numbers.specs.Number.{meaning, IsToken}
+use Rattle.lexer.specs.Scan.{lexedOf}
+use Rattle.lexer.proofs.Lexed.{token-lexed, error-lexed}
 use borrow.Author.Needs.{needs}
 use Rattle.lexer.proofs.scan.number.Statement.{statement}
 use Rattle.lexer.proofs.scan.number.Tie as tie
@@ -18,13 +20,20 @@ enum-known-state : tie.Need-enum-known-state
 enum-known-state c = search needs
 
 returns : tie.Need-returns
-returns c = sym (ap meaning (c .before .kind .given .1)) ∙ c .before .before .before .number .ensures
+returns c =
+    let e = c .before .kind .given .1 in
+    let n = c .before .before .before .number in
+    token-lexed _ _ (subst IsToken e (n .ensures .1)) ∙ ap lexedOf (sym (ap meaning e) ∙ n .ensures .0)
 
 returns-2 : tie.Need-returns-2
-returns-2 c = sym (ap meaning (c .before .fault .given .1)) ∙ c .before .before .before .number .ensures
+returns-2 c =
+    let n = c .before .before .before .number in
+    error-lexed _ _ ∙ ap lexedOf (sym (ap meaning (c .before .fault .given .1)) ∙ n .ensures .0)
 
 returns-3 : tie.Need-returns-3
-returns-3 c = sym (ap meaning (c .before .state .given .1)) ∙ c .before .before .before .number .ensures
+returns-3 c =
+    let n = c .before .before .before .number in
+    ap lexedOf (sym (ap meaning (c .before .state .given .1)) ∙ n .ensures .0)
 
 pub number-spec : {M : Type 1} → statement M
 number-spec =

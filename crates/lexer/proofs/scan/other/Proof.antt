@@ -4,6 +4,8 @@ use native.Mathlib.Omega.{arith}
 use Rattle.base.specs.Item.{lexeme}
 use Rattle.lexer.proofs.Fronts.{other-item}
 use borrow.Author.Needs.{needs}
+use Prim.Native.Nat.{ℕ}
+use Rattle.lexer.specs.Scan.{lexedOf}
 use Rattle.lexer.proofs.scan.other.Statement.{statement}
 use Rattle.lexer.proofs.scan.other.Tie as tie
 
@@ -14,7 +16,8 @@ size-at-requires : tie.Need-size-at-requires
 size-at-requires c κs = search needs
 
 returns : tie.Need-returns
-returns c = ap (lexeme 65) (c .size-at .ensures) ∙ sym (other-item (c .before .before .before .before .args .rest .now) (c .before .before .before .before .pre .0) (c .before .before .before .before .pre .1) (sym (c .before .before .blank-at .ensures) ∙ c .before .if1 .taken))
+unfolding lexedOf
+returns c = ap (λ (n : ℕ). lexedOf (lexeme 65 n)) (c .size-at .ensures) ∙ sym (ap lexedOf (other-item (c .before .before .before .before .args .rest .now) (c .before .before .before .before .pre .0) (c .before .before .before .before .pre .1) (sym (c .before .before .blank-at .ensures) ∙ c .before .if1 .taken)))
 
 whitespace-requires : tie.Need-whitespace-requires
 whitespace-requires c κs =

@@ -5,6 +5,8 @@ use Rattle.lookup.proofs.Classes.{class-name, class-hash, class-dot, class-numb
 use Rattle.lexer.proofs.Blanks.{blank-one}
 use Rattle.lexer.proofs.Fronts.{punctuator-item}
 use borrow.Author.Needs.{needs}
+use Rattle.lexer.specs.Scan.{lexedOf}
+use Rattle.lexer.proofs.Lexed.{token-lexed}
 use Rattle.lexer.proofs.scan.scan.Statement.{statement}
 use Rattle.lexer.proofs.scan.scan.Tie as tie
 
@@ -55,7 +57,8 @@ returns-6 c = search needs
 returns-7 : tie.Need-returns-7
 returns-7 c =
     let b = class-bounds _ _ (sym (c .before .before .before .before .before .before .class .ensures)) (c .before .before .before .before .before .before .before .before .before .pre .1) in
-    sym (punctuator-item (c .before .before .before .before .before .before .before .before .before .args .rest .now) (c .before .before .before .before .before .before .class .result) (c .before .before .before .before .before .before .before .before .before .pre .0) (sym (c .before .before .before .before .before .before .class .ensures)) (b (c .before .before .before .before .before .if1 .left) (c .before .before .before .before .if2 .left) (c .before .before .before .if3 .left) (c .before .before .if4 .left) (c .if6 .left) .0) (b (c .before .before .before .before .before .if1 .left) (c .before .before .before .before .if2 .left) (c .before .before .before .if3 .left) (c .before .before .if4 .left) (c .if6 .left) .1) (c .before .if5 .left))
+    let l = (b (c .before .before .before .before .before .if1 .left) (c .before .before .before .before .if2 .left) (c .before .before .before .if3 .left) (c .before .before .if4 .left) (c .if6 .left)) in
+    token-lexed _ _ (omega arith) ∙ sym (ap lexedOf (punctuator-item (c .before .before .before .before .before .before .before .before .before .args .rest .now) (c .before .before .before .before .before .before .class .result) (c .before .before .before .before .before .before .before .before .before .pre .0) (sym (c .before .before .before .before .before .before .class .ensures)) (b (c .before .before .before .before .before .if1 .left) (c .before .before .before .before .if2 .left) (c .before .before .before .if3 .left) (c .before .before .if4 .left) (c .if6 .left) .0) (b (c .before .before .before .before .before .if1 .left) (c .before .before .before .before .if2 .left) (c .before .before .before .if3 .left) (c .before .before .if4 .left) (c .if6 .left) .1) (c .before .if5 .left)))
 
 pub scan-spec : {M : Type 1} → statement M
 scan-spec =

@@ -3,6 +3,8 @@ use mathlib.Core.Path.{_≡_, refl, sym, ap, _∙_}
 use Rattle.base.specs.Item.{lexeme}
 use Rattle.lexer.proofs.Fronts.{blank-item}
 use borrow.Author.Needs.{needs}
+use Prim.Native.Nat.{ℕ}
+use Rattle.lexer.specs.Scan.{lexedOf}
 use Rattle.lexer.proofs.scan.whitespace.Statement.{statement}
 use Rattle.lexer.proofs.scan.whitespace.Tie as tie
 
@@ -13,7 +15,7 @@ ends-requires : tie.Need-ends-requires
 ends-requires c κs = search needs
 
 returns : tie.Need-returns
-returns c = c .ends .ensures ∙ ap (lexeme 1) (c .before .blank-run .ensures) ∙ sym (blank-item (c .before .before .before .args .rest .now) (c .before .before .before .pre))
+returns c = c .ends .ensures ∙ ap (λ (n : ℕ). lexedOf (lexeme 1 n)) (c .before .blank-run .ensures) ∙ sym (ap lexedOf (blank-item (c .before .before .before .args .rest .now) (c .before .before .before .pre)))
 
 pub whitespace-spec : {M : Type 1} → statement M
 whitespace-spec = tie.close (tie.spec blank-run-requires ends-requires returns)

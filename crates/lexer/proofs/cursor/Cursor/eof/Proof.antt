@@ -65,14 +65,14 @@ returns-2 : tie.Need-returns-2
 returns-2 c = c .error .ensures ∙ eof-string _ _ (c .before .before .before .before .state .given .0 .0) _ 11 (c .before .before .before .before .state .given .1) (ap endOf (c .before .enum-told2 .given .1)) (omega arith)
 
 returns-3 : tie.Need-returns-3
-returns-3 c = c .error2 .ensures ∙ eof-string _ _ (c .before .before .before .state .given .0 .0) _ 12 (c .before .before .before .state .given .1) (unterminated _ (c .before .match2 .keys2)) (omega arith)
+returns-3 c = c .error2 .ensures ∙ eof-string _ _ (c .before .before .before .state .given .0 .0) _ 12 (c .before .before .before .state .given .1) (unterminated (c .before .before .before .state .given .0 .0) (c .before .match2 .keys2)) (omega arith)
 
 returns-4 : tie.Need-returns-4
 unfolding eofOf
 returns-4 c = c .error3 .ensures ∙ rw (c .before .enum-told3 .given .1)
 
 returns-5 : tie.Need-returns-5
-returns-5 c = c .eof-number .ensures ∙ ap (λ (s : State). eofOf _ s _) (sym (c .before .before .state2 .given .1))
+returns-5 c = c .eof-number .ensures ∙ rw (c .before .before .state2 .given .1)
 
 returns-6 : tie.Need-returns-6
 unfolding eofOf
