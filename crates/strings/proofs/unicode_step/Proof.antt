@@ -42,7 +42,7 @@ unfolding unicodeStep
 returns-4 c =
     let a = c .before .before .before .before .args in
     let no-brace : eqb (a .b) 123 && (eqb (a .remaining) 4 && not (a .pair-trail)) ≡ false =
-        ⊎-elim (λ w. search (needs, tests, w .2 .left)) (⊎-elim (λ w. search (needs, tests)) (λ w. search (needs, tests))) (c .before .if3 .came) in
+    ⊎-elim (λ w. search (needs, tests, w .2 .left)) (⊎-elim (λ w. search (needs, tests)) (λ w. search (needs, tests))) (c .before .if3 .came) in
     rw (sym (c .before .before .before .is-hexdigit .ensures) ∙ c .before .before .if1 .left, no-brace) (c .no-digit .ensures)
 
 pub unicode-step-spec : {M : Type 1} → statement M
