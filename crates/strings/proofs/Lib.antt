@@ -1,5 +1,5 @@
 -- Laws of the machine of strings.
-pub mod Classes
+pub mod Hex
 pub mod Quoted
 pub mod Block
 pub mod Simulation

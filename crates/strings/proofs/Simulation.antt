@@ -1,7 +1,7 @@
 -- The code's machine of quoted strings and document 01's say the same: related states make related moves, so what the code finds of a string
 -- is what is defined of it. Assumes nothing.
 use mathlib.Core.Path.{_≡_, refl, sym, ap, _∙_}
-use mathlib.Core.Bool.{Bool, true, false, not, _&&_, and-true, and-false}
+use mathlib.Core.Bool.{Bool, true, false, and-true, and-false}
 use mathlib.Core.List.{List, [], _∷_, _++_, append-nil}
 use Prim.Native.Nat.{ℕ, zero, suc, _+_, _≤_, _<_, min}
 use native.Mathlib.Numerals.{one-add}
@@ -37,11 +37,12 @@ cap-from low high v h = by (leb v 0x10FFFF) below above
     above : leb v 0x10FFFF ≡ false → from low high (cap v) ≡ from low high v
     above p = let l = leb-false v 0x10FFFF p in from-above low high (cap v) (omega arith) ∙ sym (from-above low high v (omega arith))
 
--- so it is the same surrogate
+-- so it is a lead surrogate exactly if the number is
 cap-lead : (v : ℕ) → leadSurrogate (cap v) ≡ leadSurrogate v
 unfolding leadSurrogate
 cap-lead v = cap-from 0xD800 0xDBFF v (omega arith)
 
+-- and a trail surrogate
 cap-trail : (v : ℕ) → trailSurrogate (cap v) ≡ trailSurrogate v
 unfolding trailSurrogate
 cap-trail v = cap-from 0xDC00 0xDFFF v (omega arith)
@@ -74,38 +75,44 @@ data SameMove : StringStep → Move → Type 0 where
   goes : {f : ℕ} {fs : List ℕ} {s : StringState} {s′ : State} → SameFault f fs → Same s s′ → SameMove (Go s f) (to fs s′)
   closes : {f : ℕ} {fs : List ℕ} → SameFault f fs → SameMove (Close f) (shut fs)
 
+-- two picks by the same test
 either : (q : Bool) {x y : StringStep} {m n : Move} → SameMove x m → SameMove y n → SameMove (pick q x y) (pick q m n)
 either true h k = h
 either false h k = k
 
--- step by step
-
+-- where a character, an escape or the closing quote may stand
 text-move : (b : ℕ) → SameMove (inText b) (faults.inText b)
 unfolding inText faults.inText
 text-move b = either (eqb b 34) (closes none) (either (eqb b 92) (goes none at-escape) (either (lineEnd b) (goes (one refl) at-text) (goes none at-text)))
 
+-- straight after the opening quote
 start-move : (b : ℕ) → SameMove (startStep b) (after opened b)
 unfolding startStep after
 start-move b = either (lineEnd b) (goes none at-text) (text-move b)
 
+-- a hex digit is due and another character stands there
 no-digit-move : (b : ℕ) → SameMove (noDigit b) (faults.noDigit b)
 unfolding noDigit faults.noDigit
 no-digit-move b = either (eqb b 34) (closes (one refl)) (goes (one refl) at-text)
 
+-- a four-digit escape is whole
 whole-move : (w v : ℕ) → w ≡ cap v → SameMove (wholeUnicode w false) (whole v)
 unfolding wholeUnicode whole
 whole-move w v e =
     rw (e, cap-lead, cap-trail)
     (either (leadSurrogate v) (goes none at-lead) (either (trailSurrogate v) (goes (one refl) at-text) (goes none at-text)))
 
+-- a four-digit escape after a lead surrogate is whole
 whole-trail-move : (w v : ℕ) → w ≡ cap v → SameMove (wholeUnicode w true) (wholeTrail v)
 unfolding wholeUnicode wholeTrail
 whole-trail-move w v e = rw (e, cap-trail) (either (trailSurrogate v) (goes none at-text) (goes (one refl) at-text))
 
+-- a braced escape is whole
 whole-braced-move : (w v : ℕ) → w ≡ cap v → SameMove (pick (scalar w) (Go StringLiteral 0) (Go StringLiteral 18)) (wholeBraced v)
 unfolding wholeBraced
 whole-braced-move w v e = rw (e, cap-scalar) (either (scalar v) (goes none at-text) (goes (one refl) at-text))
 
+-- in a four-digit escape past its first digit
 digits-move : (r w k v b : ℕ) → r ≡ suc k → k ≤ 2 → w ≡ cap v → SameMove (unicodeStep r w false b) (after (digits k v) b)
 unfolding unicodeStep after
 digits-move r w zero v b p h e =
@@ -114,10 +121,11 @@ digits-move r w (suc k) v b p h e =
     rw (lt-ltb 1 r (omega arith), ne-eqb r 4 (λ z. omega arith), and-false)
     (either (hexDigit b) (goes none (at-digits (omega arith) (omega arith) (cap-more w v b e))) (no-digit-move b))
 
+-- in a four-digit escape after a lead surrogate
 trail-move : (r w k v b : ℕ) → r ≡ suc k → w ≡ cap v → SameMove (unicodeStep r w true b) (after (trail k v) b)
 unfolding unicodeStep after
 trail-move r w zero v b p e =
-    rw (p, and-false) (either (hexDigit b) (whole-trail-move (capped w b) (withDigit v b) (cap-more w v b e)) (no-digit-move b))
+    rw (p, and-false (eqb b 123)) (either (hexDigit b) (whole-trail-move (capped w b) (withDigit v b) (cap-more w v b e)) (no-digit-move b))
 trail-move r w (suc k) v b p e =
     rw (lt-ltb 1 r (omega arith), and-false (eqb r 4), and-false (eqb b 123))
     (either (hexDigit b) (goes none (at-trail (omega arith) (cap-more w v b e))) (no-digit-move b))
@@ -128,7 +136,7 @@ unfolding stringStep backslashStep unicodeStep variableStep leadStep leadBacksla
 moves at-text b = text-move b
 moves at-escape b = either (escapedCharacter b) (goes none at-text) (either (eqb b 117) (goes none at-unicode) (goes (one refl) at-text))
 moves at-unicode b =
-    rw and-true
+    rw (and-true (eqb b 123))
     (either (hexDigit b) (goes none (at-digits refl (omega arith) (cap-more 0 0 b refl))) (either (eqb b 123) (goes none at-brace) (no-digit-move b)))
 moves (at-digits {r} {w} {k} {v} p h e) b = digits-move r w k v b p h e
 moves at-brace b =

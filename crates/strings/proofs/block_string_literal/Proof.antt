@@ -2,9 +2,8 @@
 use mathlib.Core.Path.{_≡_, sym, _∙_}
 use Prim.Native.Nat.{_+_, _-_, _≤_}
 use native.Mathlib.Omega.{arith}
-use lib.ListN.{length, drop}
+use lib.ListN.{length}
 use borrow.Author.Needs.{needs}
-use Rattle.rules.specs.Faults.{escaped}
 use Rattle.strings.specs.String.{blockOf}
 use Rattle.strings.proofs.Block.{blockFrom, block-begins, block-closes, block-turn, block-within, block-ends}
 use Rattle.strings.proofs.block_string_literal.Statement.{statement}

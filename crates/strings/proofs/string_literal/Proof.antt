@@ -1,7 +1,7 @@
 -- `strings::string_literal` meets its contract. The invariant: the string is that which is read on from the state at i, i bytes further on.
 -- Assumes nothing.
 use mathlib.Core.Path.{_≡_, refl, sym, _∙_}
-use Prim.Native.Nat.{_+_, _-_, _≤_}
+use Prim.Native.Nat.{_-_, _≤_}
 use lib.ListN.{length, drop}
 use borrow.Author.Needs.{needs}
 use Rattle.strings.specs.String.{further, begun, quotedFrom}

@@ -2,7 +2,7 @@
 use native.Mathlib.Omega.{arith}
 use Rattle.base.proofs.Rules.{tests}
 use Rattle.rules.specs.Classes.{hexValue}
-use Rattle.strings.proofs.Classes.{hex-cases}
+use Rattle.strings.proofs.Hex.{hex-cases}
 use borrow.Author.Needs.{needs}
 use Rattle.strings.proofs.to_digit.Statement.{statement}
 use Rattle.strings.proofs.to_digit.Tie as tie

@@ -37,13 +37,17 @@ returns-3 c =
 no-digit-requires : tie.Need-no-digit-requires
 no-digit-requires c κs = search needs
 
+-- on each way past the tests of `{`, no braced escape begins
+no-brace : (c : tie.Joined3) →
+    let a = c .before .before .before .args in
+    eqb (a .b) 123 && (eqb (a .remaining) 4 && not (a .pair-trail)) ≡ false
+no-brace c =
+    ⊎-elim (λ w. search (needs, tests, w .2 .left)) (⊎-elim (λ w. search (needs, tests)) (λ w. search (needs, tests))) (c .if3 .came)
+
 returns-4 : tie.Need-returns-4
 unfolding unicodeStep
 returns-4 c =
-    let a = c .before .before .before .before .args in
-    let no-brace : eqb (a .b) 123 && (eqb (a .remaining) 4 && not (a .pair-trail)) ≡ false =
-    ⊎-elim (λ w. search (needs, tests, w .2 .left)) (⊎-elim (λ w. search (needs, tests)) (λ w. search (needs, tests))) (c .before .if3 .came) in
-    rw (sym (c .before .before .before .is-hexdigit .ensures) ∙ c .before .before .if1 .left, no-brace) (c .no-digit .ensures)
+    rw (sym (c .before .before .before .is-hexdigit .ensures) ∙ c .before .before .if1 .left, no-brace (c .before)) (c .no-digit .ensures)
 
 pub unicode-step-spec : {M : Type 1} → statement M
 unicode-step-spec =

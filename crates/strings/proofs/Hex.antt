@@ -1,6 +1,6 @@
--- The classes of strings, as the code tests them: where a hex digit lies, and the scalars by their two bounds. Assumes nothing.
+-- Where a hex digit lies, as the code tests it. Assumes nothing.
 use mathlib.Core.Path.{_≡_}
-use mathlib.Core.Bool.{true, false, _||_}
+use mathlib.Core.Bool.{true, _||_}
 use Prim.Native.Nat.{ℕ, _≤_}
 use Rattle.base.specs.Text.{from}
 use Rattle.base.proofs.Tests.{or-true, from-true}
