@@ -64,7 +64,7 @@ end-of-text c [] e = refl
 end-of-text c (b ∷ s) e = absurd (omega arith)
 
 -- a suffix that begins with a quote is read as a string
-quote-item : (s : List ℕ) → itemAt (34 ∷ s) ≡ stringAt (34 ∷ s)
+pub quote-item : (s : List ℕ) → itemAt (34 ∷ s) ≡ stringAt (34 ∷ s)
 unfolding itemAt stringToken errorAt digit
 quote-item s = by (eqb (stringAt (34 ∷ s) .code) 19) (λ e. rw (quote-first s, e)) (λ e. rw (quote-first s, e))
 

@@ -1,2 +1,5 @@
 -- Laws of reading.
 pub mod Turn
+pub mod Reading
+pub mod Spans
+pub mod Entries

@@ -1,83 +1,76 @@
+-- `reader::give_items` meets its contract: the invariant is `Head` of proofs/Reading, whose laws say what each way out and a turn make of it. Assumes nothing.
+use mathlib.Core.Path.{_≡_, refl, sym, ap, _∙_}
+use Prim.Native.Nat.{_-_}
+use native.Mathlib.Omega.{arith}
+use borrow.Author.Needs.{needs}
+use lib.ListN.{length}
+use Rattle.rules.specs.Items.{itemAt}
+use Rattle.rules.proofs.Bounds.{item-pos, item-le}
+use Rattle.reader.proofs.Turn.{length-tape, at-limit, at-limit-tape, at-room, at-room-tape}
+use Rattle.reader.proofs.Reading.{Head, start, code-fits, put-fits, given-all, given-all-tape, further, again}
 use Rattle.reader.proofs.give_items.Statement.{statement}
 use Rattle.reader.proofs.give_items.Tie as tie
-use Rattle.reader.proofs.give_items.Reads as reads
-use Rattle.reader.proofs.give_items.Lts as lts
-use Rattle.lexer.proofs.cursor.Cursor.advance.Reads as advance-reads
-use Rattle.lexer.proofs.cursor.Cursor.new.Reads as new-reads
-use Rattle.lexer.proofs.code_of.Reads as code-of-reads
-use Rattle.lexer.proofs.size_of.Reads as size-of-reads
-use Rattle.tape.proofs.capacity.Reads as capacity-reads
-use Rattle.tape.proofs.put_entry.Reads as put-entry-reads
 
 abbrev Inv-loop : tie.InvT-loop
-Inv-loop text limit tape₀ space cursor₀ n₀ tape cursor n = ?
+Inv-loop text limit tape₀ space cursor₀ n₀ tape cursor n = Head text tape₀ limit space tape cursor n
 
 abbrev μ-loop : tie.MeasureT-loop
-μ-loop text limit tape₀ space cursor₀ n₀ tape cursor n = ?
+μ-loop text limit tape₀ space cursor₀ n₀ tape cursor n = length text - cursor .index
 
--- src/lib.rt:24:9
 capacity-requires : tie.Need-capacity-requires Inv-loop μ-loop
-capacity-requires c κs = ?
+capacity-requires c κs = search needs
 
--- src/lib.rt:25:9
 new-requires : tie.Need-new-requires Inv-loop μ-loop
-new-requires c κs = ?
+new-requires c κs = search needs
 
--- src/lib.rt:27:5
 loop-holds : tie.Need-loop-holds Inv-loop μ-loop
-loop-holds c = ?
+loop-holds c = start (c .before .before .before .before .before .args .text .now) (c .before .before .before .before .before .args .tape .now) (c .before .before .before .before .before .args .limit) (c .before .capacity .result) (c .new .result) (c .before .before .before .before .before .pre) (c .before .capacity .ensures) (c .new .ensures .0) (c .new .ensures .1)
 
--- src/lib.rt:30:13
 same-length : tie.Need-same-length Inv-loop μ-loop
-same-length c = ?
+same-length c = length-tape itemAt item-pos item-le (c .before .before .before .before .before .before .before .args .text .now) (c .before .before .before .before .before .before .before .args .tape .now) (c .before .before .before .before .before .before .before .args .limit) (c .before .loop .tape) (c .before .loop .cursor .index) (c .before .loop .n) (c .before .loop .inv .state)
 
--- src/lib.rt:30:13
 returns : tie.Need-returns Inv-loop μ-loop
-returns c = ?
+returns c = (at-limit itemAt item-pos item-le (c .before .before .before .before .before .before .before .args .text .now) (c .before .before .before .before .before .before .before .args .tape .now) (c .before .before .before .before .before .before .before .args .limit) (c .before .loop .tape) (c .before .loop .cursor .index) (c .before .loop .n) (c .before .loop .inv .state) (c .if1 .taken), at-limit-tape itemAt item-pos item-le (c .before .before .before .before .before .before .before .args .text .now) (c .before .before .before .before .before .before .before .args .tape .now) (c .before .before .before .before .before .before .before .args .limit) (c .before .loop .tape) (c .before .loop .cursor .index) (c .before .loop .n) (c .before .loop .inv .state) (c .if1 .taken))
 
--- src/lib.rt:38:13
 same-length-2 : tie.Need-same-length-2 Inv-loop μ-loop
-same-length-2 c = ?
+same-length-2 c = length-tape itemAt item-pos item-le (c .before .before .before .before .before .before .before .before .args .text .now) (c .before .before .before .before .before .before .before .before .args .tape .now) (c .before .before .before .before .before .before .before .before .args .limit) (c .before .before .loop .tape) (c .before .before .loop .cursor .index) (c .before .before .loop .n) (c .before .before .loop .inv .state)
 
--- src/lib.rt:38:13
 returns-2 : tie.Need-returns-2 Inv-loop μ-loop
-returns-2 c = ?
+returns-2 c =
+    let f = c .if2 .taken ∙ c .before .before .loop .inv .all in
+    (at-room itemAt item-pos item-le (c .before .before .before .before .before .before .before .before .args .text .now) (c .before .before .before .before .before .before .before .before .args .tape .now) (c .before .before .before .before .before .before .before .before .args .limit) (c .before .before .loop .tape) (c .before .before .loop .cursor .index) (c .before .before .loop .n) (c .before .before .loop .inv .state) (c .before .if1 .left) f, at-room-tape itemAt item-pos item-le (c .before .before .before .before .before .before .before .before .args .text .now) (c .before .before .before .before .before .before .before .before .args .tape .now) (c .before .before .before .before .before .before .before .before .args .limit) (c .before .before .loop .tape) (c .before .before .loop .cursor .index) (c .before .before .loop .n) (c .before .before .loop .inv .state) (c .before .if1 .left) f)
 
--- src/lib.rt:45:13
 advance-requires : tie.Need-advance-requires Inv-loop μ-loop
-advance-requires c κs = ?
+advance-requires c κs = c .before .before .loop .inv .clear
 
--- src/lib.rt:47:13
 code-of-requires : tie.Need-code-of-requires Inv-loop μ-loop
-code-of-requires c κs = ?
+code-of-requires c κs = code-fits (c .before .before .before .before .before .before .before .before .before .args .text .now) (c .before .before .before .before .before .before .before .before .before .args .tape .now) (c .before .before .before .before .before .before .before .before .before .args .limit) (c .before .before .before .before .before .capacity .result) (c .before .before .before .loop .tape) (c .before .before .before .loop .cursor) (c .before .before .before .loop .n) (c .before .before .before .loop .inv) (c .advance .result) (c .advance .ensures)
 
--- src/lib.rt:48:13
 size-of-requires : tie.Need-size-of-requires Inv-loop μ-loop
-size-of-requires c κs = ?
+size-of-requires c κs = search needs
 
--- src/lib.rt:49:9
 put-entry-requires : tie.Need-put-entry-requires Inv-loop μ-loop
-put-entry-requires c κs = ?
+put-entry-requires c κs = put-fits (c .before .before .before .before .before .before .before .before .before .before .before .before .args .text .now) (c .before .before .before .before .before .before .before .before .before .before .before .before .args .tape .now) (c .before .before .before .before .before .before .before .before .before .before .before .before .args .limit) (c .before .before .before .before .before .before .before .before .capacity .result) (c .before .before .before .before .before .before .loop .tape) (c .before .before .before .before .before .before .loop .cursor) (c .before .before .before .before .before .before .loop .n) (c .before .before .before .before .before .before .loop .inv) (c .before .before .before .advance .result) (c .before .before .before .advance .ensures) (c .before .before .code-of .result) (c .before .before .code-of .ensures) (c .before .size-of .result) (c .before .size-of .ensures) (c .before .before .before .before .before .if1 .left) (c .before .before .before .before .if2 .left)
 
--- src/lib.rt:50:9
 add-n : tie.Need-add-n Inv-loop μ-loop
-add-n c = ?
+add-n c =
+    let r = c .before .before .before .before .before .before .before .before .before .loop .inv .state .roomy in
+    omega (arith, c .before .before .before .before .before .before .before .before .before .loop .inv .all)
 
--- src/lib.rt:52:13
 same-length-3 : tie.Need-same-length-3 Inv-loop μ-loop
-same-length-3 c = ?
+same-length-3 c = c .before .before .before .put-entry .kept .0 ∙ length-tape itemAt item-pos item-le (c .before .before .before .before .before .before .before .before .before .before .before .before .before .before .before .before .args .text .now) (c .before .before .before .before .before .before .before .before .before .before .before .before .before .before .before .before .args .tape .now) (c .before .before .before .before .before .before .before .before .before .before .before .before .before .before .before .before .args .limit) (c .before .before .before .before .before .before .before .before .before .before .loop .tape) (c .before .before .before .before .before .before .before .before .before .before .loop .cursor .index) (c .before .before .before .before .before .before .before .before .before .before .loop .n) (c .before .before .before .before .before .before .before .before .before .before .loop .inv .state)
 
--- src/lib.rt:52:13
 returns-3 : tie.Need-returns-3 Inv-loop μ-loop
-returns-3 c = ?
+returns-3 c = (given-all (c .before .before .before .before .before .before .before .before .before .before .before .before .before .before .before .before .args .text .now) (c .before .before .before .before .before .before .before .before .before .before .before .before .before .before .before .before .args .tape .now) (c .before .before .before .before .before .before .before .before .before .before .before .before .before .before .before .before .args .limit) (c .before .before .before .before .before .before .before .before .before .before .before .before .capacity .result) (c .before .before .before .before .before .before .before .before .before .before .loop .tape) (c .before .before .before .before .before .before .before .before .before .before .loop .cursor) (c .before .before .before .before .before .before .before .before .before .before .loop .n) (c .before .before .before .before .before .before .before .before .before .before .loop .inv) (c .before .before .before .before .before .before .before .advance .result) (c .before .before .before .before .before .before .before .advance .ensures) (c .before .before .before .before .before .before .code-of .result) (c .before .before .before .before .before .before .code-of .ensures) (c .before .before .before .before .before .size-of .result) (c .before .before .before .before .before .size-of .ensures) (c .before .before .before .before .before .before .before .before .before .if1 .left) (c .before .before .before .before .before .before .before .before .if2 .left) (c .if3 .taken), c .before .before .before .put-entry .ensures ∙ given-all-tape (c .before .before .before .before .before .before .before .before .before .before .before .before .before .before .before .before .args .text .now) (c .before .before .before .before .before .before .before .before .before .before .before .before .before .before .before .before .args .tape .now) (c .before .before .before .before .before .before .before .before .before .before .before .before .before .before .before .before .args .limit) (c .before .before .before .before .before .before .before .before .before .before .before .before .capacity .result) (c .before .before .before .before .before .before .before .before .before .before .loop .tape) (c .before .before .before .before .before .before .before .before .before .before .loop .cursor) (c .before .before .before .before .before .before .before .before .before .before .loop .n) (c .before .before .before .before .before .before .before .before .before .before .loop .inv) (c .before .before .before .before .before .before .before .advance .result) (c .before .before .before .before .before .before .before .advance .ensures) (c .before .before .before .before .before .before .code-of .result) (c .before .before .before .before .before .before .code-of .ensures) (c .before .before .before .before .before .size-of .result) (c .before .before .before .before .before .size-of .ensures) (c .before .before .before .before .before .before .before .before .before .if1 .left) (c .before .before .before .before .before .before .before .before .if2 .left) (c .if3 .taken))
 
--- src/lib.rt:27:5
 loop-less : tie.Need-loop-less Inv-loop μ-loop
-loop-less c = ?
+loop-less c =
+    let w = c .before .before .before .before .before .before .before .before .before .before .before .loop .inv .clear .within in
+    let g = again (c .before .before .before .before .before .before .before .before .before .before .before .before .before .before .before .before .before .args .text .now) (c .before .before .before .before .before .before .before .before .before .before .before .before .before .before .before .before .before .args .tape .now) (c .before .before .before .before .before .before .before .before .before .before .before .before .before .before .before .before .before .args .limit) (c .before .before .before .before .before .before .before .before .before .before .before .before .before .capacity .result) (c .before .before .before .before .before .before .before .before .before .before .before .loop .tape) (c .before .before .before .before .before .before .before .before .before .before .before .loop .cursor) (c .before .before .before .before .before .before .before .before .before .before .before .loop .n) (c .before .before .before .before .before .before .before .before .before .before .before .loop .inv) (c .before .before .before .before .before .before .before .before .advance .result) (c .before .before .before .before .before .before .before .before .advance .ensures) (c .before .before .before .before .before .before .before .code-of .result) (c .before .before .before .before .before .before .before .code-of .ensures) (c .before .before .before .before .before .before .size-of .result) (c .before .before .before .before .before .before .size-of .ensures) (c .before .before .before .before .before .before .before .before .before .before .if1 .left) (c .before .before .before .before .before .before .before .before .before .if2 .left) (c .before .if3 .left) .clear .within in
+    omega (arith, further (c .before .before .before .before .before .before .before .before .before .before .before .before .before .before .before .before .before .args .text .now) (c .before .before .before .before .before .before .before .before .before .before .before .before .before .before .before .before .before .args .tape .now) (c .before .before .before .before .before .before .before .before .before .before .before .before .before .before .before .before .before .args .limit) (c .before .before .before .before .before .before .before .before .before .before .before .before .before .capacity .result) (c .before .before .before .before .before .before .before .before .before .before .before .loop .tape) (c .before .before .before .before .before .before .before .before .before .before .before .loop .cursor) (c .before .before .before .before .before .before .before .before .before .before .before .loop .n) (c .before .before .before .before .before .before .before .before .before .before .before .loop .inv) (c .before .before .before .before .before .before .before .before .advance .result) (c .before .before .before .before .before .before .before .before .advance .ensures) (c .before .before .before .before .before .before .before .code-of .result) (c .before .before .before .before .before .before .before .code-of .ensures) (c .before .before .before .before .before .before .size-of .result) (c .before .before .before .before .before .before .size-of .ensures) (c .before .before .before .before .before .before .before .before .before .before .if1 .left) (c .before .before .before .before .before .before .before .before .before .if2 .left) (c .before .if3 .left))
 
--- src/lib.rt:27:5
 loop-again : tie.Need-loop-again Inv-loop μ-loop
-loop-again c = ?
+loop-again c = rw (c .before .before .before .before .put-entry .ensures) (again (c .before .before .before .before .before .before .before .before .before .before .before .before .before .before .before .before .before .args .text .now) (c .before .before .before .before .before .before .before .before .before .before .before .before .before .before .before .before .before .args .tape .now) (c .before .before .before .before .before .before .before .before .before .before .before .before .before .before .before .before .before .args .limit) (c .before .before .before .before .before .before .before .before .before .before .before .before .before .capacity .result) (c .before .before .before .before .before .before .before .before .before .before .before .loop .tape) (c .before .before .before .before .before .before .before .before .before .before .before .loop .cursor) (c .before .before .before .before .before .before .before .before .before .before .before .loop .n) (c .before .before .before .before .before .before .before .before .before .before .before .loop .inv) (c .before .before .before .before .before .before .before .before .advance .result) (c .before .before .before .before .before .before .before .before .advance .ensures) (c .before .before .before .before .before .before .before .code-of .result) (c .before .before .before .before .before .before .before .code-of .ensures) (c .before .before .before .before .before .before .size-of .result) (c .before .before .before .before .before .before .size-of .ensures) (c .before .before .before .before .before .before .before .before .before .before .if1 .left) (c .before .before .before .before .before .before .before .before .before .if2 .left) (c .before .if3 .left))
 
 pub give-items-spec : {M : Type 1} → statement M
 give-items-spec =

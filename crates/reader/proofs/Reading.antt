@@ -1,0 +1,155 @@
+-- Reading with the cursor, on plain values: what holds at the loop's head, and what the cursor's step makes of it. Assumes nothing.
+use mathlib.Core.Path.{_≡_, refl, sym, ap, _∙_}
+use mathlib.Core.Bool.{Bool, true, false}
+use mathlib.Core.List.{List, [], _∷_}
+use Prim.Native.Nat.{ℕ, _+_, _*_, _^_, _≤_, _<_}
+use native.Mathlib.Nat.{not-suc-le-zero}
+use native.Mathlib.Omega.{arith}
+use borrow.Author.Tests.{eqb-true}
+use lib.Dec.{eqb}
+use lib.ListN.{length, drop, length-drop}
+use Rattle.base.specs.Text.{pick}
+use Rattle.base.specs.Item.{Lexeme}
+use Rattle.base.proofs.Tests.{by}
+use Rattle.tape.specs.Entry.{entrySize, room, entry, overAt}
+use Rattle.rules.specs.Faults.{stringScan}
+use Rattle.rules.specs.StringAt.{stringAt}
+use Rattle.rules.specs.Tokens.{tokenAt}
+use Rattle.rules.specs.Items.{errorAt, itemAt, items}
+use Rattle.rules.proofs.StringSizes.{string-fits}
+use Rattle.rules.proofs.Bounds.{item-pos, item-le}
+use Rattle.rules.proofs.Codes.{code-at}
+use Rattle.lexer.specs.declared.cursor.Cursor.{Cursor}
+use Rattle.lexer.specs.declared.cursor.Advanced.{Advanced}
+use Rattle.lexer.specs.Scan.{codeOf, sizeOf, lexedOf}
+use Rattle.lexer.specs.Cursor.{keptBy, Clear, advancedOf}
+use Rattle.lexer.proofs.Lexed.{code-lexed, size-lexed}
+use Rattle.lexer.proofs.Advance.{quote-item}
+use Rattle.reader.specs.Answers.{longest, answer, givenAnswer, givenTape}
+use Rattle.reader.proofs.Turn.{State, begin, length-tape, fits-entry, at-end, at-end-tape, size-pos, size-le, next}
+
+-- the loop's head: the cursor stands where the items that were given end
+pub record Head (t old : List ℕ) (limit space : ℕ) (tape : List ℕ) (c : Cursor) (n : ℕ) : Type 0 where
+  pub short : length t ≤ longest
+  pub all : space ≡ room old
+  pub clear : Clear t c
+  pub state : State itemAt item-pos item-le t old limit tape (c .index) n
+
+pub start : (t old : List ℕ) (limit space : ℕ) (c : Cursor) → length t ≤ longest → space ≡ room old → c .index ≡ 0 → c .err ≡ 0 → Head t old limit space old c 0
+start t old limit space c h r i e = record {
+  short = h;
+  all = r;
+  clear = record { within = omega arith; none = λ l. e };
+  state = rw i (begin itemAt item-pos item-le t old limit);
+}
+
+-- a fault is kept only behind an item that reaches the text's end
+kept-at-end : (err : ℕ) (s : List ℕ) → 0 < length s → itemAt s .size < length s → keptBy err s ≡ 0
+unfolding keptBy stringAt
+kept-at-end err [] p h = absurd (not-suc-le-zero p)
+kept-at-end err (b ∷ s) p h = by (eqb b 34) (λ q. quote b s q h) (λ q. rw q)
+  where
+    cut : (s : List ℕ) → itemAt (34 ∷ s) .size < length (34 ∷ s) → stringScan (34 ∷ s) .closed ≡ true
+    cut s h = by (stringScan (34 ∷ s) .closed) (λ e. e) (λ e.
+        let l = string-fits 34 s .to-the-end e in
+        let z : itemAt (34 ∷ s) .size ≡ stringScan (34 ∷ s) .size = ap (λ (x : Lexeme). x .size) (quote-item s) in
+        absurd (omega arith))
+
+    quote : (b : ℕ) (s : List ℕ) → eqb b 34 ≡ true → itemAt (b ∷ s) .size < length (b ∷ s) → keptBy err (b ∷ s) ≡ 0
+    quote b s q h = let e = eqb-true b 34 q in rw e (rw (cut s (rw e at h)))
+
+-- a code fits a byte
+pub code-fits : (t old : List ℕ) (limit space : ℕ) (tape : List ℕ) (c : Cursor) (n : ℕ) → Head t old limit space tape c n
+    → (r : Advanced) → r ≡ advancedOf t c → codeOf (r .item) < 256
+unfolding advancedOf itemAt tokenAt errorAt
+code-fits t old limit space tape c n H r e = rw (e, code-lexed (itemAt (drop (c .index) t))) (go (drop (c .index) t))
+  where
+    go : (s : List ℕ) → itemAt s .code < 256
+    go [] = omega arith
+    go (b ∷ s) = let k = code-at (b ∷ s) (omega arith) in omega arith
+
+module _ (t old : List ℕ) (limit space : ℕ) (tape : List ℕ) (c : Cursor) (n : ℕ) (H : Head t old limit space tape c n)
+    (r : Advanced) (e : r ≡ advancedOf t c) (code : ℕ) (ce : code ≡ codeOf (r .item)) (size : ℕ) (ze : size ≡ sizeOf (r .item)) where
+  is-code : code ≡ itemAt (drop (c .index) t) .code
+  unfolding advancedOf
+  is-code = ce ∙ ap (λ (x : Advanced). codeOf (x .item)) e ∙ code-lexed (itemAt (drop (c .index) t))
+
+  is-size : size ≡ itemAt (drop (c .index) t) .size
+  unfolding advancedOf
+  is-size = ze ∙ ap (λ (x : Advanced). sizeOf (x .item)) e ∙ size-lexed (itemAt (drop (c .index) t))
+
+  pub size-fits : c .index + size ≤ length t
+  size-fits =
+      let l = item-le (drop (c .index) t) in
+      let d = length-drop (c .index) t in
+      let w = H .clear .within in
+      omega (arith, is-size)
+
+  -- at the text's end stands Eof, and nowhere else
+  pub at-eof : code ≡ 0 → c .index ≡ length t
+  at-eof z = go (drop (c .index) t) refl
+    where
+      go : (s : List ℕ) → drop (c .index) t ≡ s → c .index ≡ length t
+      go [] f = let d = length-drop (c .index) t in let w = H .clear .within in omega (arith, ap length f)
+      go (b ∷ s) f =
+          let k = code-at (b ∷ s) (omega arith) in
+          let g : code ≡ itemAt (b ∷ s) .code = rw f at is-code in
+          absurd (omega arith)
+
+  pub not-eof : (code ≡ 0 → ⊥) → c .index < length t
+  unfolding itemAt tokenAt errorAt
+  not-eof z = go (drop (c .index) t) refl
+    where
+      go : (s : List ℕ) → drop (c .index) t ≡ s → c .index < length t
+      go [] f = absurd (z (is-code ∙ rw f))
+      go (b ∷ s) f = let d = length-drop (c .index) t in omega (arith, ap length f)
+
+  pub eof-size : code ≡ 0 → size ≡ 0
+  eof-size z = let f = size-fits in let a = at-eof z in omega arith
+
+  module _ (d : n ≡ limit → ⊥) (f : n ≡ space → ⊥) where
+    full : n ≡ room old → ⊥
+    full g = f (g ∙ sym (H .all))
+
+    pub put-fits : (n < room tape) × ((c .index < 2 ^ 28) × (size < 2 ^ 28))
+    put-fits =
+        let h = H .short in
+        let s = size-fits in
+        let w = H .clear .within in
+        (fits-entry itemAt item-pos item-le t old limit tape (c .index) n (H .state) d full, (omega arith, omega arith))
+
+    -- the end: Eof is written
+    pub given-all : code ≡ 0 → answer 0 (c .index) (n + 1) 0 ≡ givenAnswer (length t) (items t) limit (room old)
+    given-all z = at-end itemAt item-pos item-le t old limit tape (c .index) n (H .state) d full (at-eof z)
+
+    pub given-all-tape : code ≡ 0 → overAt (n * entrySize) tape (entry code (c .index) size) ≡ givenTape (items t) limit old
+    given-all-tape z = rw (z, eof-size z) (at-end-tape itemAt item-pos item-le t old limit tape (c .index) n (H .state) d full (at-eof z))
+
+    -- a turn
+    module _ (z : code ≡ 0 → ⊥) where
+      new-index : r .cursor .index ≡ c .index + size
+      unfolding advancedOf
+      new-index = ap (λ (x : Advanced). x .cursor .index) e ∙ rw is-size
+
+      new-err : r .cursor .err ≡ keptBy (c .err) (drop (c .index) t)
+      unfolding advancedOf
+      new-err = ap (λ (x : Advanced). x .cursor .err) e
+
+      pub further : c .index < r .cursor .index
+      further =
+          let p = size-pos itemAt item-pos item-le t old limit tape (c .index) n (H .state) d full (not-eof z) in
+          omega (arith, new-index, is-size)
+
+      pub again : Head t old limit space (overAt (n * entrySize) tape (entry code (c .index) size)) (r .cursor) (n + 1)
+      again = record {
+        short = H .short;
+        all = H .all;
+        clear = record {
+          within = omega (arith, new-index, size-fits);
+          none = λ l.
+              let m = length-drop (c .index) t in
+              let h = not-eof z in
+              new-err ∙ kept-at-end (c .err) (drop (c .index) t) (omega arith) (omega (arith, new-index, is-size));
+        };
+        state = rw (new-index, is-code, is-size) (next itemAt item-pos item-le t old limit tape (c .index) n (H .state) d full (not-eof z));
+      }
