@@ -1,0 +1,2 @@
+-- Laws of the entries.
+pub mod Codes

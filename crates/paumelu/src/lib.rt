@@ -1,0 +1,36 @@
+// Paumelu: a GraphQL reader whose every answer is proved. The entries, and the C interface. Nothing is decided here.
+pub use reader::Answer;
+pub use reader::part;
+pub use reader::read_items;
+ghost use mathlib.Core.Path.{_≡_};
+ghost use Rattle.paumelu.specs.Interface.{interfaceAnswer, interfaceTape};
+
+// Reads items for C, by the entry code 0: the number is the result; place, items and events are written behind references.
+#[no_mangle]
+pub extern "C" fn paumelu_read(
+    entry: u64,
+    text: &[u8],
+    limit: u64,
+    tape: &mut [u8],
+    place: &mut u64,
+    items: &mut u64,
+    events: &mut u64,
+) -> u64
+    ensures number { λ r. ⌜ r ≡ interfaceAnswer entry (now (text .entry)) limit (now (tape .entry)) .number ⌝ }
+    ensures place { λ _. ⌜ now (place .exit) ≡ interfaceAnswer entry (now (text .entry)) limit (now (tape .entry)) .place ⌝ }
+    ensures items { λ _. ⌜ now (items .exit) ≡ interfaceAnswer entry (now (text .entry)) limit (now (tape .entry)) .items ⌝ }
+    ensures events { λ _. ⌜ now (events .exit) ≡ interfaceAnswer entry (now (text .entry)) limit (now (tape .entry)) .events ⌝ }
+    ensures tape { λ _. ⌜ now (tape .exit) ≡ interfaceTape entry (now (text .entry)) limit (now (tape .entry)) ⌝ }
+{
+    if entry != 0 {
+        *place = 0;
+        *items = 0;
+        *events = 0;
+        return 11;
+    }
+    let a = reader::read_items(text, limit as usize, tape);
+    *place = a.place as u64;
+    *items = a.items as u64;
+    *events = a.events as u64;
+    a.number as u64
+}
