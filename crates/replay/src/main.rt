@@ -8,13 +8,19 @@
 use libc::STDERR_FILENO;
 use libc::STDIN_FILENO;
 use libc::STDOUT_FILENO;
-ghost use Prim.Native.Nat.{_+_, _≤_};
+ghost use Prim.Native.Nat.{_+_, _≤_, _<_};
 ghost use lib.ListN.{length};
 
 // One clear line on standard error, and the run ends.
 fn refuse(line: &[u8]) -> bool {
     io::write_all(STDERR_FILENO, line);
     false
+}
+
+fn wide(b: u8) -> u64
+    ensures { λ r. ⌜ r < 256 ⌝ }
+{
+    b as u64
 }
 
 // The number of `count` bytes from index `from` on, most significant first.
@@ -24,7 +30,7 @@ fn number(b: &[u8], from: usize, count: usize) -> u64
     let mut v: u64 = 0;
     let mut i = 0;
     while i < count {
-        v = (v % 0x100_0000_0000_0000) * 256 + (b[from + i] as u64);
+        v = (v % 0x100_0000_0000_0000) * 256 + wide(b[from + i]);
         i += 1;
     }
     v
@@ -83,7 +89,15 @@ fn read_by_interface(entry: u64, text: &[u8], limit: u64, items: &mut [u8]) -> p
     let mut place: u64 = 0xA5A5_A5A5_A5A5_A5A5;
     let mut count: u64 = 0xA5A5_A5A5_A5A5_A5A5;
     let mut events: u64 = 0xA5A5_A5A5_A5A5_A5A5;
-    let number = paumelu::paumelu_read(entry, text, limit, items, &mut place, &mut count, &mut events);
+    let number = paumelu::paumelu_read(
+        entry,
+        text,
+        limit,
+        items,
+        &mut place,
+        &mut count,
+        &mut events,
+    );
     paumelu::Answer {
         number: number as usize,
         place: place as usize,
@@ -93,7 +107,14 @@ fn read_by_interface(entry: u64, text: &[u8], limit: u64, items: &mut [u8]) -> p
 }
 
 // Answers one case whose tapes are lent at their lengths.
-fn answer(entry: u8, limit: u64, depth: u64, text: &[u8], items: &mut [u8], events: &mut [u8]) -> bool {
+fn answer(
+    entry: u8,
+    limit: u64,
+    depth: u64,
+    text: &[u8],
+    items: &mut [u8],
+    events: &mut [u8],
+) -> bool {
     if entry == 5 {
         return write_part(text, limit, depth);
     }
