@@ -22,4 +22,5 @@ pub mod Items
 pub mod Bounds
 pub mod Boundary
 pub mod Follow
+pub mod Tiling
 mod Cases
