@@ -8,17 +8,18 @@ use borrow.Author.Tests.{eqb-true}
 use lib.Dec.{eqb}
 use lib.ListN.{length, getD, drop}
 use lib.Seq.{drop-append-seam, drop-append-add, drop-length, drop-nil, drop-cons}
-use Rattle.base.specs.Text.{Class, All, starts, Optional, missing, given}
+use Rattle.base.specs.Text.{Class, All, starts}
 use Rattle.base.specs.Text.{from}
-use Rattle.rules.specs.Classes.{digit, nonzero, letter, nameStart, nameContinue, lineEnd, exponentMark, sign, point, pointOrName}
-use Rattle.rules.specs.Rules.{Blanks, tab, space, lf, cr, feff, LineEnds, atEnd, atLine, Punctuator, comma, bang, dollar, amp, parenL, parenR, colon, equals, at, bracketL, bracketR, curlyL, pipe, curlyR, Digits, digits, Whole, positive, IntegerPart, unsigned, FractionalPart, SignedDigits, plain, signed, ExponentPart, mark, FloatValue, fraction, exponent, both, Rule, whitespace, comment, punctuator, spread, name, int, float, string}
+use Rattle.rules.specs.Classes.{digit, letter, nameStart, nameContinue, lineEnd, exponentMark, sign, point, pointOrName}
+use Rattle.rules.specs.Rules.{Blanks, tab, space, lf, cr, feff, LineEnds, atEnd, atLine, Punctuator, comma, bang, dollar, amp, parenL, parenR, colon, equals, at, bracketL, bracketR, curlyL, pipe, curlyR, Rule, whitespace, comment, punctuator, spread, name, int, float, string}
 use Rattle.rules.specs.Rules
 use Rattle.utf8.specs.Sequence.{size}
-use Rattle.rules.specs.Errors.{LeadingZero, nought, minusNought, Fault, unexpected, secondDigit, suffix, noFraction, afterFraction, afterExponent, noExponent, noSigned, minus, ended, twoDots, oneDot, loneQuote, unterminated, inString, Stands, token, error}
+use Rattle.rules.specs.Errors.{Fault, unexpected, secondDigit, suffix, noFraction, afterFraction, afterExponent, noExponent, noSigned, minus, ended, twoDots, oneDot, loneQuote, unterminated, inString, Stands, token, error}
 use Rattle.rules.specs.Items.{itemAt}
 use Rattle.utf8.specs.Utf8.{ascii, tail, Utf8}
 use Rattle.base.proofs.Tests.{or-true, from-true, from-in, from-below}
-use Rattle.rules.proofs.Classes.{digit-range, nonzero-range}
+use Rattle.rules.proofs.Classes.{digit-range}
+use Rattle.rules.proofs.Alphabet.{all-in, Numeral, integer-bytes, fraction-bytes, exponent-bytes, optional-bytes, float-bytes, zero-bytes}
 use Rattle.base.proofs.Tests.{from-in}
 use Rattle.utf8.proofs.Characters.{skip-one, skip-all, skip-three, no-tail, skip-character}
 use Rattle.base.specs.Item.{Lexeme, lexeme}
@@ -38,9 +39,6 @@ one-of b c h e = let k = eqb-true b c e in low b (omega arith)
 
 digit-ascii : (b : ℕ) → digit b ≡ true → ascii b ≡ true
 digit-ascii b e = let h = digit-range b e in low b (omega arith)
-
-nonzero-ascii : (b : ℕ) → nonzero b ≡ true → ascii b ≡ true
-nonzero-ascii b e = let h = nonzero-range b e in low b (omega arith)
 
 name-ascii : (b : ℕ) → nameStart b ≡ true → ascii b ≡ true
 unfolding nameStart letter
@@ -81,47 +79,9 @@ punctuator-ascii curlyL = refl
 punctuator-ascii pipe = refl
 punctuator-ascii curlyR = refl
 
-all-ascii : (c : Class) → ((b : ℕ) → c b ≡ true → ascii b ≡ true) → (a : List ℕ) → All c a → All ascii a
-all-ascii c f [] h = tt
-all-ascii c f (b ∷ a) h = (f b (h .0), all-ascii c f a (h .1))
-
-both-ascii : (a b : List ℕ) → All ascii a → All ascii b → All ascii (a ++ b)
-both-ascii [] b h g = g
-both-ascii (x ∷ a) b h g = (h .0, both-ascii a b (h .1) g)
-
-digits-ascii : {a : List ℕ} → Digits a → All ascii a
-digits-ascii (digits {b = b} {a = a} d h) = (digit-ascii b d, all-ascii digit digit-ascii a h)
-
-whole-ascii : {a : List ℕ} → Whole a → All ascii a
-whole-ascii Rules.nought = (refl, tt)
-whole-ascii (positive {b = b} {a = a} d h) = (nonzero-ascii b d, all-ascii digit digit-ascii a h)
-
-integer-ascii : {a : List ℕ} → IntegerPart a → All ascii a
-integer-ascii (unsigned h) = whole-ascii h
-integer-ascii (Rules.minus h) = (refl, whole-ascii h)
-
-fraction-ascii : {a : List ℕ} → FractionalPart a → All ascii a
-fraction-ascii (Rules.point h) = (refl, digits-ascii h)
-
-signed-ascii : {a : List ℕ} → SignedDigits a → All ascii a
-signed-ascii (plain h) = digits-ascii h
-signed-ascii (signed {s = s} p h) = (sign-ascii s p, digits-ascii h)
-
-exponent-ascii : {a : List ℕ} → ExponentPart a → All ascii a
-exponent-ascii (mark {e = e} m h) = (mark-ascii e m, signed-ascii h)
-
-optional-ascii : {f : List ℕ} → Optional FractionalPart f → All ascii f
-optional-ascii missing = tt
-optional-ascii (given g) = fraction-ascii g
-
-float-ascii : {a : List ℕ} → FloatValue a → All ascii a
-float-ascii (fraction i f h g) = both-ascii i f (integer-ascii h) (fraction-ascii g)
-float-ascii (exponent i e h k) = both-ascii i e (integer-ascii h) (exponent-ascii k)
-float-ascii (both i f e h g k) = both-ascii i (f ++ e) (integer-ascii h) (both-ascii f e (fraction-ascii g) (exponent-ascii k))
-
-zero-ascii : {a : List ℕ} → LeadingZero a → All ascii a
-zero-ascii nought = (refl, tt)
-zero-ascii minusNought = (refl, (refl, tt))
+-- every byte of a number is ASCII
+number-ascii : Numeral ascii
+number-ascii = record { digits = digit-ascii; marks = mark-ascii; signs = sign-ascii; points = λ b. one-of b 46 (omega arith) }
 
 -- after blanks
 skip-blanks : {a : List ℕ} (r : List ℕ) → Blanks a → Utf8 (a ++ r) → Utf8 r
@@ -187,31 +147,31 @@ rule-boundary (whitespace a r p h) u = rw drop-append-seam (skip-blanks r (h .0)
 rule-boundary (comment a r h e) u = no-tail (length a) (skip-one refl u) (rw (drop-append-seam a r) (line-tail e))
 rule-boundary (punctuator h) u = skip-one (punctuator-ascii h) u
 rule-boundary spread u = skip-all (46 ∷ 46 ∷ 46 ∷ []) _ (refl, (refl, (refl, tt))) u
-rule-boundary (name {b = b} a r e h) u = end (b ∷ a) r (name-ascii b e, all-ascii nameContinue continue-ascii a (h .0)) u
-rule-boundary (int a r h e) u = end a r (integer-ascii h) u
+rule-boundary (name {b = b} a r e h) u = end (b ∷ a) r (name-ascii b e, all-in continue-ascii a (h .0)) u
+rule-boundary (int a r h e) u = end a r (integer-bytes number-ascii h) u
 rule-boundary (string {t = t} {n = n} v) u = string-boundary t n v u
-rule-boundary (float a r h e) u = end a r (float-ascii h) u
+rule-boundary (float a r h e) u = end a r (float-bytes number-ascii h) u
 
 fault-boundary : {k n : ℕ} {t : List ℕ} → Fault k t n → Utf8 t → Utf8 (drop n t)
 fault-boundary (unexpected b r s w) u = skip-character u
-fault-boundary (secondDigit a r h d) u = past a r 1 (zero-ascii h) (past-one digit digit-ascii r d) u
-fault-boundary (suffix i r h n m) u = past i r 1 (integer-ascii h) (past-one nameStart name-ascii r n) u
+fault-boundary (secondDigit a r h d) u = past a r 1 (zero-bytes number-ascii h) (past-one digit digit-ascii r d) u
+fault-boundary (suffix i r h n m) u = past i r 1 (integer-bytes number-ascii h) (past-one nameStart name-ascii r n) u
 fault-boundary (noFraction i r h e d) u =
-    sized _ (length i + suc (size r)) (length i + 1 + size r) (omega arith) (past i (46 ∷ r) _ (integer-ascii h) (λ v. skip-character (skip-one refl v)) u)
+    sized _ (length i + suc (size r)) (length i + 1 + size r) (omega arith) (past i (46 ∷ r) _ (integer-bytes number-ascii h) (λ v. skip-character (skip-one refl v)) u)
 fault-boundary (afterFraction i f r h g p m) u =
     sized _ (length i + (length f + 1)) (length i + length f + 1) (omega arith)
-    (past i (f ++ r) _ (integer-ascii h) (past f r 1 (fraction-ascii g) (past-one pointOrName point-or-name-ascii r p)) u)
+    (past i (f ++ r) _ (integer-bytes number-ascii h) (past f r 1 (fraction-bytes number-ascii g) (past-one pointOrName point-or-name-ascii r p)) u)
 fault-boundary (afterExponent i f e r h g k p) u =
     sized _ (length i + (length f + (length e + 1))) (length i + length f + length e + 1) (omega arith)
-    (past i (f ++ (e ++ r)) _ (integer-ascii h)
-    (past f (e ++ r) _ (optional-ascii g) (past e r 1 (exponent-ascii k) (past-one pointOrName point-or-name-ascii r p))) u)
+    (past i (f ++ (e ++ r)) _ (integer-bytes number-ascii h)
+    (past f (e ++ r) _ (optional-bytes number-ascii g) (past e r 1 (exponent-bytes number-ascii k) (past-one pointOrName point-or-name-ascii r p))) u)
 fault-boundary (noExponent i f r x h g m e d s) u =
     sized _ (length i + (length f + suc (size r))) (length i + length f + 1 + size r) (omega arith)
-    (past i (f ++ (x ∷ r)) _ (integer-ascii h) (past f (x ∷ r) _ (optional-ascii g) (λ v. skip-character (skip-one (mark-ascii x m) v))) u)
+    (past i (f ++ (x ∷ r)) _ (integer-bytes number-ascii h) (past f (x ∷ r) _ (optional-bytes number-ascii g) (λ v. skip-character (skip-one (mark-ascii x m) v))) u)
 fault-boundary (noSigned i f r x s h g m p e d) u =
     sized _ (length i + (length f + suc (suc (size r)))) (length i + length f + 2 + size r) (omega arith)
-    (past i (f ++ (x ∷ s ∷ r)) _ (integer-ascii h)
-    (past f (x ∷ s ∷ r) _ (optional-ascii g) (λ v. skip-character (skip-one (sign-ascii s p) (skip-one (mark-ascii x m) v)))) u)
+    (past i (f ++ (x ∷ s ∷ r)) _ (integer-bytes number-ascii h)
+    (past f (x ∷ s ∷ r) _ (optional-bytes number-ascii g) (λ v. skip-character (skip-one (sign-ascii s p) (skip-one (mark-ascii x m) v)))) u)
 fault-boundary (minus r d) u = sized (45 ∷ r) (suc (size r)) (1 + size r) (omega arith) (skip-character (skip-one refl u))
 fault-boundary (ended a h) u = rw (drop-length a) Utf8.none
 fault-boundary (twoDots r p) u = skip-one refl (skip-one refl u)

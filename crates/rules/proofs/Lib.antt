@@ -20,6 +20,7 @@ pub mod Tokens
 pub mod Faults
 pub mod Items
 pub mod Bounds
+pub mod Alphabet
 pub mod Boundary
 pub mod Follow
 pub mod Tiling
