@@ -24,4 +24,5 @@ pub mod Alphabet
 pub mod Boundary
 pub mod Follow
 pub mod Tiling
+pub mod Local
 mod Cases
