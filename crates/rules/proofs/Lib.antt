@@ -25,4 +25,5 @@ pub mod Boundary
 pub mod Follow
 pub mod Tiling
 pub mod Local
+pub mod LineEnd
 mod Cases
