@@ -23,6 +23,7 @@ pub mod Bounds
 pub mod Alphabet
 pub mod Boundary
 pub mod Follow
+pub mod Codes
 pub mod Tiling
 pub mod Local
 pub mod LineEnd

@@ -17,13 +17,13 @@ use Rattle.tiles.specs.Seam.{moved}
 use Rattle.tiles.proofs.Cover.{covers}
 use Rattle.tiles.proofs.Every.{Every, every-append, every}
 use Rattle.tiles.proofs.Suffix as suffixes
-use Rattle.rules.specs.Rules.{Punctuator, comma, bang, dollar, amp, parenL, parenR, colon, equals, at, bracketL, bracketR, curlyL, pipe, curlyR, Rule, whitespace, comment, punctuator, spread, name, int, float, string}
-use Rattle.rules.specs.Errors.{Fault, unexpected, secondDigit, suffix, noFraction, afterFraction, afterExponent, noExponent, noSigned, minus, ended, twoDots, oneDot, loneQuote, unterminated, inString, Stands, token, error}
+use Rattle.rules.specs.Rules.{Rule}
+use Rattle.rules.specs.Errors.{Stands, token, error}
 use Rattle.rules.specs.Items.{itemAt, items}
-use Rattle.rules.specs.Laws.{AllStand, AllWhole}
-use Rattle.rules.proofs.StringSizes.{string-fits, last-known}
+use Rattle.rules.specs.Laws.{AllStand, part, AllWhole}
+use Rattle.rules.proofs.Codes.{rule-code, Code, item-code, code-range}
 use Rattle.rules.proofs.Items.{item-sound, token-item}
-use Rattle.rules.proofs.Bounds.{item-within, item-pos, item-le}
+use Rattle.rules.proofs.Bounds.{item-pos, item-le}
 use Rattle.rules.proofs.Boundary.{item-at-boundary}
 
 -- "the items before Eof cover the text in order by nonempty spans with no gap and no overlap"
@@ -37,51 +37,6 @@ eof-last t = rw zero-add
 -- what holds of the item at each place of a text holds of each item before Eof
 each-item : (t : List ℕ) (P : Item → Type 0) → ((at b : ℕ) (s : List ℕ) → drop at t ≡ b ∷ s → P (placed at (itemAt (b ∷ s)))) → Every P (tiles itemAt 0 0 t)
 each-item t P f = every itemAt item-pos (λ s. Unit {0}) (λ s q. tt) t P (λ at b s e q. f at b s e) tt
-
--- the codes: a token's
-punctuator-code : {b k : ℕ} → Punctuator b k → (3 ≤ k) × (k ≤ 17)
-punctuator-code comma = omega arith
-punctuator-code bang = omega arith
-punctuator-code dollar = omega arith
-punctuator-code amp = omega arith
-punctuator-code parenL = omega arith
-punctuator-code parenR = omega arith
-punctuator-code colon = omega arith
-punctuator-code equals = omega arith
-punctuator-code at = omega arith
-punctuator-code bracketL = omega arith
-punctuator-code bracketR = omega arith
-punctuator-code curlyL = omega arith
-punctuator-code pipe = omega arith
-punctuator-code curlyR = omega arith
-
-pub rule-code : {k n : ℕ} {t : List ℕ} → Rule k t n → (1 ≤ k) × (k ≤ 21)
-rule-code (whitespace a r p h) = omega arith
-rule-code (comment a r h e) = omega arith
-rule-code (punctuator h) = let c = punctuator-code h in omega arith
-rule-code spread = omega arith
-rule-code (name a r e h) = omega arith
-rule-code (int a r h e) = omega arith
-rule-code (float a r h e) = omega arith
-rule-code (string v) = omega arith
-
--- and an error's
-pub fault-code : {k n : ℕ} {t : List ℕ} → Fault k t n → (1 ≤ k) × (k ≤ 18)
-fault-code (unexpected b r s w) = omega arith
-fault-code (secondDigit a r h d) = omega arith
-fault-code (suffix i r h n m) = omega arith
-fault-code (noFraction i r h e d) = omega arith
-fault-code (afterFraction i f r h g p m) = omega arith
-fault-code (afterExponent i f e r h g k p) = omega arith
-fault-code (noExponent i f r x h g m e d s) = omega arith
-fault-code (noSigned i f r x s h g m p e d) = omega arith
-fault-code (minus r d) = omega arith
-fault-code (ended a h) = omega arith
-fault-code (twoDots r p) = omega arith
-fault-code (oneDot r p) = omega arith
-fault-code loneQuote = omega arith
-fault-code (unterminated r h c) = omega arith
-fault-code (inString r f fs c e) = let k = last-known f fs (rw e at (string-fits 34 r .known)) in omega arith
 
 -- "at each boundary the item is a token by its rule or an error"
 pub all-stand : (t : List ℕ) → AllStand t (tiles itemAt 0 0 t)
@@ -106,3 +61,55 @@ error-no-rule t l k n h =
     let c = rule-code h in
     let e : itemAt t .code ≡ k = ap (λ (x : Lexeme). x .code) (token-item h) in
     omega arith
+
+-- no item of the list is Eof
+abbrev pub NoEof : List Item → Type 0
+NoEof xs = Every (λ x. x .code ≡ 0 → ⊥) xs
+
+-- each code before Eof's is 1 to 21 or 65 to 82
+pub all-codes : (t : List ℕ) → Every (λ x. Code (x .code)) (tiles itemAt 0 0 t)
+all-codes t = each-item t _ (λ at b s e. item-code (item-sound b s))
+
+-- no item before the last is Eof: it occurs once
+pub eof-once : (t : List ℕ) → NoEof (tiles itemAt 0 0 t)
+eof-once t = each-item t _ (λ at b s e z. omega (arith, code-range (item-code (item-sound b s))))
+
+-- it has the last place
+pub eof-position : (t : List ℕ) → length (items t) ≡ length (tiles itemAt 0 0 t) + 1
+eof-position t = length-append (tiles itemAt 0 0 t) (eof (0 + length t) ∷ [])
+
+-- "each item starts and ends where a character starts or the text ends; the part that it covers is itself UTF-8"
+pub all-whole : (t : List ℕ) → Utf8 t → AllWhole t (tiles itemAt 0 0 t)
+all-whole t u =
+    go (tiles itemAt 0 0 t)
+    (every itemAt item-pos Utf8 item-at-boundary t _
+    (λ at b s e v. let w = item-at-boundary (b ∷ s) v in rw e (v, before-place (itemAt (b ∷ s) .size) v w, w)) u)
+  where
+    go : (xs : List Item) → Every (λ x. Utf8 (drop (x .start) t) × Utf8 (part t x) × Utf8 (drop (x .size) (drop (x .start) t))) xs → AllWhole t xs
+    go [] h = tt
+    go (x ∷ xs) h = (h .0 .0, h .0 .1, h .0 .2, go xs (h .1))
+
+-- the item's start and length are below 2^28, its code below 2^8
+abbrev pub Fits : Item → Type 0
+Fits x = (x .start < 2 ^ 28) × (x .size < 2 ^ 28) × (x .code < 2 ^ 8)
+
+-- in a text of at most 16 MiB each item fits, Eof too
+pub fits-28 : (t : List ℕ) → length t ≤ 16777216 → Every Fits (items t)
+fits-28 t l =
+    every-append Fits (tiles itemAt 0 0 t) _
+    (each-item t Fits (λ at b s e.
+    let k = length-next at t b s e in
+    let c = code-range (item-code (item-sound b s)) in
+    let w = item-le (b ∷ s) in
+    (omega arith, omega arith, omega arith)))
+    ((omega arith, omega arith, omega arith), tt)
+
+-- i is a boundary of the text: the first `count` items end there
+pub record Boundary (t : List ℕ) (i : ℕ) : Type 0 where
+  pub count : ℕ
+  pub some : count ≤ length (tiles itemAt 0 0 t)
+  pub ends : Covers 0 (take count (tiles itemAt 0 0 t)) i
+
+-- from a boundary on, the items are those of the rest of the text read alone, moved by what stands before it
+pub suffix : (t : List ℕ) (i : ℕ) (b : Boundary t i) → drop (b .count) (items t) ≡ map (moved i) (items (drop i t))
+suffix t i b = suffixes.suffix itemAt item-pos item-le (b .count) i t (b .some) (b .ends)
