@@ -27,4 +27,5 @@ pub mod Codes
 pub mod Tiling
 pub mod Local
 pub mod LineEnd
+pub mod Sharp
 mod Cases
