@@ -7,22 +7,22 @@ use mathlib.Core.Bool.{Bool, true, false, not}
 use native.Mathlib.Omega.{arith}
 use borrow.Author.Tests.{eqb-true, eq-eqb, ne-eqb, ltb-true, ltb-false}
 use lib.Dec.{eqb, ltb}
-use lib.ListN.{length, take, drop, getD, take-append-drop, length-append, length-drop}
+use lib.ListN.{length, take, drop, take-append-drop, length-append, length-drop}
 use lib.Seq.{length-take-le}
 use Rattle.base.specs.Text.{Class, All}
-use Rattle.base.specs.Item.{Lexeme, lexeme, Item}
+use Rattle.base.specs.Item.{lexeme, Item}
 use Rattle.base.proofs.Tests.{apart, by, or-true, from-in}
 use Rattle.base.specs.Span.{span}
 use Rattle.base.proofs.Span.{span-stop}
-use Rattle.utf8.specs.Utf8.{ascii, ee-ef, Utf8, one, two, three, four}
-use Rattle.utf8.proofs.Split.{no-tail-first, before-place}
+use Rattle.utf8.specs.Utf8.{ee-ef, Utf8, one, three}
+use Rattle.utf8.proofs.Split.{append-utf8, no-tail-first, before-place}
 use Rattle.tiles.specs.Tiles.{tiles}
 use Rattle.tiles.specs.Cover.{Covers}
 use Rattle.tiles.specs.Seam.{moved, Deaf}
 use Rattle.tiles.proofs.Every.{deaf}
 use Rattle.tiles.proofs.Seam.{seam, seam-eof}
 use Rattle.rules.specs.Classes.{lineEnd, notLineEnd}
-use Rattle.rules.specs.Rules.{Blanks, none, tab, space, lf, cr, feff, Rule}
+use Rattle.rules.specs.Rules.{Blanks, none, tab, space, lf, cr, feff}
 use Rattle.rules.specs.Tokens.{blank, blanks}
 use Rattle.rules.specs.Errors.{Stands}
 use Rattle.rules.specs.Items.{itemAt, items}
@@ -35,13 +35,7 @@ use Rattle.rules.proofs.Boundary.{item-at-boundary}
 use Rattle.rules.proofs.Local.{Looks, noLine, quote, instead, local-text}
 use Rattle.rules.proofs.Tiling.{tiling, all-stand}
 
-append-utf8 : {a : List ℕ} (b : List ℕ) → Utf8 a → Utf8 b → Utf8 (a ++ b)
-append-utf8 b Utf8.none v = v
-append-utf8 b (one h u) v = one h (append-utf8 b u v)
-append-utf8 b (two h t u) v = two h t (append-utf8 b u v)
-append-utf8 b (three h t u) v = three h t (append-utf8 b u v)
-append-utf8 b (four h t k u) v = four h t k (append-utf8 b u v)
-
+-- blanks are UTF-8
 blanks-utf8 : {w : List ℕ} → Blanks w → Utf8 w
 blanks-utf8 none = Utf8.none
 blanks-utf8 (tab h) = one refl (blanks-utf8 h)
@@ -50,6 +44,7 @@ blanks-utf8 (lf h) = one refl (blanks-utf8 h)
 blanks-utf8 (cr h) = one refl (blanks-utf8 h)
 blanks-utf8 (feff h) = three (ee-ef refl refl) refl (blanks-utf8 h)
 
+-- LF and CR are small
 line-range : (x : ℕ) → lineEnd x ≡ true → x ≤ 13
 unfolding lineEnd
 line-range x e = or-true (eqb x 10) (eqb x 13) e (λ h. omega (arith, eqb-true x 10 h)) (λ h. omega (arith, eqb-true x 13 h))
@@ -72,10 +67,12 @@ blanks-item t r h p z =
     let n : blanks (t ++ r) ≡ length t = omega (arith, blanks-add r h) in
     rw n at (token-item (blanks-token (t ++ r) (ne-eqb (blanks (t ++ r)) 0 (λ e. omega arith))))
 
+-- what each byte is, the byte in the middle is
 all-at : (c : Class) (a : List ℕ) (x : ℕ) (w : List ℕ) → All c (a ++ (x ∷ w)) → c x ≡ true
 all-at c [] x w h = h .0
 all-at c (b ∷ a) x w h = all-at c a x w (h .1)
 
+-- a test and its negation
 not-both : {A : Type 0} (v : Bool) → v ≡ true → not v ≡ true → A
 not-both true e f = apart false f refl
 not-both false e f = apart false e refl
@@ -90,6 +87,7 @@ module _ (x : ℕ) (w r : List ℕ) (line : lineEnd x ≡ true) (white : Blanks 
   Left : List ℕ → Type 0
   Left s = Utf8 s × Place x w s
 
+  -- from a place on where a character begins, such a text is left
   before-from : (n : ℕ) (a : List ℕ) → NoQuote a → Utf8 (drop n (a ++ (x ∷ w))) → Place x w (drop n (a ++ (x ∷ w)))
   before-from zero a h u = before a h
   before-from (suc n) [] h u = among (blanks-from n white u)
@@ -99,10 +97,12 @@ module _ (x : ℕ) (w r : List ℕ) (line : lineEnd x ≡ true) (white : Blanks 
   place-from n (before a h) u = before-from n a h u
   place-from n (among h) u = among (blanks-from n h u)
 
+  -- what follows an item is such a text again
   after-item : (s : List ℕ) → Left s → Left (drop (itemAt s .size) s)
   unfolding Left
   after-item s h = let u = item-at-boundary s (h .0) in (u, place-from (itemAt s .size) (h .1) u)
 
+  -- the rest begins with no run of blanks
   no-rest : blanks r ≡ 0
   no-rest = span-stop blank r rest
 
@@ -112,6 +112,7 @@ module _ (x : ℕ) (w r : List ℕ) (line : lineEnd x ≡ true) (white : Blanks 
   no-look [] h (quote e) = let l = line-range x line in omega arith
   no-look (b ∷ a) h (quote e) = not-both (eqb b 34) (eq-eqb b 34 e) (h .0)
 
+  -- an item stands at the front of a text that is not empty
   stands : (t : List ℕ) → 0 < length t → Stands (itemAt t .code) t (itemAt t .size)
   stands [] p = absurd (omega arith)
   stands (b ∷ t) p = item-sound b t
@@ -139,6 +140,7 @@ module _ (x : ℕ) (w r : List ℕ) (line : lineEnd x ≡ true) (white : Blanks 
       let g : Stands (itemAt t .code) (t ++ []) (length t) = rw (append-nil t, ← l) (stands t p) in
       rw l (instead t [] r (record { whole = u; blank = λ _. no-rest; look = λ k. absurd (no-look a h k) }) g)
 
+  -- the item at such a place does not see the rest
   same-item : (t : List ℕ) → 0 < length t → Utf8 t → Place x w t → itemAt (t ++ r) ≡ itemAt t
   unfolding span
   same-item t p u (among h) =
