@@ -43,7 +43,7 @@ blanks-append (lf h) g = lf (blanks-append h g)
 blanks-append (cr h) g = cr (blanks-append h g)
 blanks-append (feff h) g = feff (blanks-append h g)
 
-blanks-add : {a : List ℕ} (r : List ℕ) → Blanks a → blanks (a ++ r) ≡ length a + blanks r
+pub blanks-add : {a : List ℕ} (r : List ℕ) → Blanks a → blanks (a ++ r) ≡ length a + blanks r
 unfolding span blank blankBy
 blanks-add r Rules.Blanks.none = sym (zero-add (blanks r))
 blanks-add r (tab h) = let e = blanks-add r h in omega arith

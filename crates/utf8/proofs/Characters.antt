@@ -13,13 +13,13 @@ use Rattle.utf8.proofs.Leads.{three-range, four-range, three-tail, four
 use Rattle.utf8.proofs.Front.{Front, front0, front1, front2, front3, front4, front-size, pick-by}
 
 -- a text of UTF-8 that has a byte begins with a character, and goes on in UTF-8 after it
-record First (t : List ℕ) : Type 0 where
-  bytes : ℕ
-  some : 0 < bytes
-  begins : Front bytes t
-  after : Utf8 (drop bytes t)
+pub record First (t : List ℕ) : Type 0 where
+  pub bytes : ℕ
+  pub some : 0 < bytes
+  pub begins : Front bytes t
+  pub after : Utf8 (drop bytes t)
 
-first : {t : List ℕ} → Utf8 t → 0 < length t → First t
+pub first : {t : List ℕ} → Utf8 t → 0 < length t → First t
 first none p = absurd (omega arith)
 first (one h u) p = record { bytes = 1; some = omega arith; begins = front1 h; after = u }
 first (two h t u) p = record { bytes = 2; some = omega arith; begins = front2 h t; after = u }
@@ -63,7 +63,7 @@ width-four b h =
     rw (from-above 0xC2 0xDF b (omega arith), from-above 0xE0 0xEF b (omega arith), h)
 
 -- the first byte of a character tells its size
-front-first : {n : ℕ} {t : List ℕ} → Front n t → 0 < n → size t ≡ n
+pub front-first : {n : ℕ} {t : List ℕ} → Front n t → 0 < n → size t ≡ n
 unfolding width
 front-first front0 p = absurd (omega arith)
 front-first (front1 {a = a} {r = r} h) p = size-is a 1 r (width-one a h) (omega arith)

@@ -5,6 +5,7 @@ pub mod Front
 pub mod Outcomes
 pub mod Turn
 pub mod Characters
+pub mod Split
 pub mod Exact
 pub mod Longest
 pub mod Encoded
