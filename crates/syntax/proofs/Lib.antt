@@ -1,0 +1,2 @@
+-- Laws of the grammar.
+mod Cases
