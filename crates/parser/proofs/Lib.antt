@@ -1,4 +1,5 @@
--- Laws of the view.
+-- Laws of the view, and of readings.
 pub mod Events
 pub mod View
 pub mod Items
+pub mod Moves

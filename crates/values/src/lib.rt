@@ -2,7 +2,7 @@
 use parser::Peeked;
 use parser::Step;
 ghost use mathlib.Core.Path.{_≡_};
-ghost use mathlib.Core.Bool.{Bool};
+ghost use mathlib.Core.Bool.{Bool, true, false};
 ghost use mathlib.Core.List.{[], _∷_, _++_};
 ghost use Prim.Native.Nat.{ℕ, _+_, _^_, _≤_, _<_};
 ghost use lib.ListN.{length};
@@ -37,6 +37,16 @@ pub fn is_name(kind: u8) -> bool
         return true;
     }
     base::within(22, 25, kind)
+}
+
+// Is it a Name that an EnumValue may be?
+fn is_enum(kind: u8) -> bool
+    ensures { λ r. ⌜ r ≡ isEnum kind ⌝ }
+{
+    if kind == 18 {
+        return true;
+    }
+    kind == 25
 }
 
 // An ENUM_VALUE around a NAME.
@@ -109,5 +119,227 @@ pub fn colon(text: &[u8], items: &[u8], at: usize, events: &mut [u8], out: usize
         next: token.next,
         end: token.start + token.size,
         out: parser::put_token(events, out, token),
+    }
+}
+
+// A variable, whose `$` is the token.
+fn variable(text: &[u8], items: &[u8], token: Peeked, events: &mut [u8], out: usize) -> Step
+    requires { ⌜ Holds (now text) (now items) ⌝ }
+    requires { ⌜ token .kind ≡ 5 ⌝ }
+    requires { ⌜ token .start + token .size < 2 ^ 28 ⌝ }
+    requires { ⌜ token .next < length (itemsOf (now text)) ⌝ }
+    ensures { λ r. ⌜ ((at l depth : ℕ) → Front (now (text .entry)) at token → Outcome false (now (text .entry)) (valueDue depth ∷ []) [] l at (now (events .entry)) out (now (events .exit)) r) ⌝ }
+{
+    let opened = open_with(11, token, events, out);
+    match name(text, items, token.next, events, opened) {
+        Step::Stop { number, place } => Step::Stop { number, place },
+        Step::Done { next, end, out: named } => Step::Done {
+            next,
+            end,
+            out: parser::put_close(events, named, 11, token.start, end),
+        },
+    }
+}
+
+// A value is due, with so much depth left; only a constant may stand there if `constant`.
+pub fn value(
+    text: &[u8],
+    items: &[u8],
+    constant: bool,
+    at: usize,
+    depth: usize,
+    events: &mut [u8],
+    out: usize,
+) -> Step
+    requires { ⌜ Holds (now text) (now items) ⌝ }
+    requires { ⌜ at < length (itemsOf (now text)) ⌝ }
+    ensures { λ r. ⌜ ((l : ℕ) → Outcome constant (now (text .entry)) (valueDue depth ∷ []) [] l at (now (events .entry)) out (now (events .exit)) r) ⌝ }
+{
+    let token = parser::peek_token(text, items, at);
+    let kind = token.kind;
+    let node = scalar_node(kind);
+    if node != 0 {
+        return Step::Done {
+            next: token.next,
+            end: token.start + token.size,
+            out: parser::put_leaf(events, out, node, token),
+        };
+    }
+    if is_enum(kind) {
+        return Step::Done {
+            next: token.next,
+            end: token.start + token.size,
+            out: enum_value(token, events, out),
+        };
+    }
+    if kind == 13 {
+        return list_value(text, items, constant, token, depth, events, out);
+    }
+    if kind == 15 {
+        return object_value(text, items, constant, token, depth, events, out);
+    }
+    if kind != 5 {
+        return Step::Stop {
+            number: 9,
+            place: token.start,
+        };
+    }
+    if constant {
+        return Step::Stop {
+            number: 8,
+            place: token.start,
+        };
+    }
+    variable(text, items, token, events, out)
+}
+
+// A list value, whose `[` is the token: its items are a loop.
+fn list_value(
+    text: &[u8],
+    items: &[u8],
+    constant: bool,
+    token: Peeked,
+    depth: usize,
+    events: &mut [u8],
+    out: usize,
+) -> Step
+    requires { ⌜ Holds (now text) (now items) ⌝ }
+    requires { ⌜ token .kind ≡ 13 ⌝ }
+    requires { ⌜ token .start + token .size < 2 ^ 28 ⌝ }
+    requires { ⌜ token .next < length (itemsOf (now text)) ⌝ }
+    ensures { λ r. ⌜ ((at l : ℕ) → Front (now (text .entry)) at token → Outcome constant (now (text .entry)) (valueDue depth ∷ []) [] l at (now (events .entry)) out (now (events .exit)) r) ⌝ }
+{
+    let start = token.start;
+    let mut o = open_with(8, token, events, out);
+    let mut i = token.next;
+    loop {
+        let t = parser::peek_token(text, items, i);
+        let kind = t.kind;
+        if kind == 14 {
+            return Step::Done {
+                next: t.next,
+                end: t.start + t.size,
+                out: close_with(8, start, t, events, o),
+            };
+        }
+        if kind == 0 {
+            return Step::Stop {
+                number: 9,
+                place: t.start,
+            };
+        }
+        if depth == 0 {
+            return Step::Stop {
+                number: 7,
+                place: t.start,
+            };
+        }
+        match value(text, items, constant, i, depth - 1, events, o) {
+            Step::Stop { number, place } => {
+                return Step::Stop { number, place };
+            }
+            Step::Done { next, end: _, out: q } => {
+                i = next;
+                o = q;
+            }
+        }
+    }
+}
+
+// An object field's name, which is the token, and its `:`.
+fn field_name(text: &[u8], items: &[u8], token: Peeked, events: &mut [u8], out: usize) -> Step
+    requires { ⌜ Holds (now text) (now items) ⌝ }
+    requires { ⌜ isName (token .kind) ≡ true ⌝ }
+    requires { ⌜ token .start + token .size < 2 ^ 28 ⌝ }
+    requires { ⌜ token .next < length (itemsOf (now text)) ⌝ }
+    ensures { λ r. ⌜ ((c : Bool) (at l depth start : ℕ) → Front (now (text .entry)) at token → Outcome c (now (text .entry)) (fields depth start ∷ []) (deeper depth ∷ close 10 (token .start) ∷ fields depth start ∷ []) l at (now (events .entry)) out (now (events .exit)) r) ⌝ }
+{
+    let opened = parser::put_open(events, out, 10, token.start);
+    let named = parser::put_leaf(events, opened, 1, token);
+    colon(text, items, token.next, events, named)
+}
+
+// An object field, whose name is the token.
+fn object_field(
+    text: &[u8],
+    items: &[u8],
+    constant: bool,
+    token: Peeked,
+    depth: usize,
+    events: &mut [u8],
+    out: usize,
+) -> Step
+    requires { ⌜ Holds (now text) (now items) ⌝ }
+    requires { ⌜ isName (token .kind) ≡ true ⌝ }
+    requires { ⌜ token .start + token .size < 2 ^ 28 ⌝ }
+    requires { ⌜ token .next < length (itemsOf (now text)) ⌝ }
+    ensures { λ r. ⌜ ((at l start : ℕ) → Front (now (text .entry)) at token → Outcome constant (now (text .entry)) (fields depth start ∷ []) (fields depth start ∷ []) l at (now (events .entry)) out (now (events .exit)) r) ⌝ }
+{
+    match field_name(text, items, token, events, out) {
+        Step::Stop { number, place } => Step::Stop { number, place },
+        Step::Done { next, end: _, out: o } => {
+            if depth == 0 {
+                let t = parser::peek_token(text, items, next);
+                return Step::Stop {
+                    number: 7,
+                    place: t.start,
+                };
+            }
+            match value(text, items, constant, next, depth - 1, events, o) {
+                Step::Stop { number, place } => Step::Stop { number, place },
+                Step::Done { next: n, end, out: q } => Step::Done {
+                    next: n,
+                    end,
+                    out: parser::put_close(events, q, 10, token.start, end),
+                },
+            }
+        }
+    }
+}
+
+// An object value, whose `{` is the token: its fields are a loop.
+fn object_value(
+    text: &[u8],
+    items: &[u8],
+    constant: bool,
+    token: Peeked,
+    depth: usize,
+    events: &mut [u8],
+    out: usize,
+) -> Step
+    requires { ⌜ Holds (now text) (now items) ⌝ }
+    requires { ⌜ token .kind ≡ 15 ⌝ }
+    requires { ⌜ token .start + token .size < 2 ^ 28 ⌝ }
+    requires { ⌜ token .next < length (itemsOf (now text)) ⌝ }
+    ensures { λ r. ⌜ ((at l : ℕ) → Front (now (text .entry)) at token → Outcome constant (now (text .entry)) (valueDue depth ∷ []) [] l at (now (events .entry)) out (now (events .exit)) r) ⌝ }
+{
+    let start = token.start;
+    let mut o = open_with(9, token, events, out);
+    let mut i = token.next;
+    loop {
+        let t = parser::peek_token(text, items, i);
+        let kind = t.kind;
+        if kind == 17 {
+            return Step::Done {
+                next: t.next,
+                end: t.start + t.size,
+                out: close_with(9, start, t, events, o),
+            };
+        }
+        if !is_name(kind) {
+            return Step::Stop {
+                number: 9,
+                place: t.start,
+            };
+        }
+        match object_field(text, items, constant, t, depth, events, o) {
+            Step::Stop { number, place } => {
+                return Step::Stop { number, place };
+            }
+            Step::Done { next, end: _, out: q } => {
+                i = next;
+                o = q;
+            }
+        }
     }
 }

@@ -1,0 +1,107 @@
+-- Readings put together: one token, one reading after another, a reading with more due below it, and a node that closes. Assumes nothing.
+use Prim.Native.Nat.{ℕ, zero, suc, _+_, _^_, _≤_, _<_}
+use mathlib.Core.Path.{_≡_, refl, sym, ap, _∙_}
+use mathlib.Core.Bool.{Bool}
+use mathlib.Core.List.{List, [], _∷_, _++_, append-assoc}
+use native.Mathlib.Omega.{arith}
+use lib.ListN.{length}
+use Rattle.base.specs.Item.{Item}
+use Rattle.rules.specs.Items.{items}
+use Rattle.syntax.specs.Token.{Token, endOf, closes}
+use Rattle.syntax.specs.Machine.{Sym, close, Move, go, stop, halt, also, step, Read, refused, accepted, emits, moved, run}
+use Rattle.parser.specs.declared.Peeked.{Peeked}
+use Rattle.parser.specs.View.{Holds, rest, tokenOf, Front}
+use Rattle.parser.specs.Events.{Puts}
+use Rattle.parser.specs.Promise.{Took}
+use Rattle.parser.proofs.Events.{puts-none, puts-then}
+
+pub emits-append : (es fs : List Item) (x : Read) → emits es (emits fs x) ≡ emits (es ++ fs) x
+emits-append es fs (refused n p) = refl
+emits-append es fs (accepted gs) = ap accepted (sym (append-assoc es fs gs))
+
+pub emits-none : (x : Read) → emits [] x ≡ x
+emits-none (refused n p) = refl
+emits-none (accepted gs) = refl
+
+-- events before a move are events before what it makes of the reading
+moved-also : (es : List Item) (m : Move) (p : ℕ) (k : List Sym → Read) → moved (also es m) p k ≡ emits es (moved m p k)
+moved-also es (go fs K) p k = sym (emits-append es fs (k K))
+moved-also es (stop n) p k = refl
+moved-also es (halt fs) p k = refl
+
+-- a node closes where the token before ended
+pub close-now : (c : Bool) (n s l : ℕ) (K : List Sym) (ts : List Token) → run c (close n s ∷ K) l ts ≡ emits (closes n s l ∷ []) (run c K l ts)
+unfolding run step
+close-now c n s l K [] = refl
+close-now c n s l K (t ∷ ts) = moved-also (closes n s l ∷ []) (step c l K t) (t .start) (λ K′. run c K′ (endOf t) ts)
+
+-- the token's span is narrow
+pub narrow : (t tape : List ℕ) (at : ℕ) (p : Peeked) → Holds t tape → Front t at p → p .start + p .size < 2 ^ 28
+narrow t tape at p H F = let s = H .short in let f = F .fits in omega arith
+
+-- one token, which p is
+module _ (c : Bool) (t : List ℕ) (l at : ℕ) (p : Peeked) (F : Front t at p) where
+  run-at : (S : List Sym) → run c S l (rest t at) ≡ moved (step c l S (tokenOf p)) (p .start) (λ K. run c K (endOf (tokenOf p)) (rest t (p .next)))
+  unfolding run
+  run-at S = rw (F .first)
+
+  pub took-one : (due left : List Sym) (es : List Item) (tape : List ℕ) (out : ℕ) (tape′ : List ℕ) (next : ℕ) → ((K : List Sym) → step c l (due ++ K) (tokenOf p) ≡ go es (left ++ K))
+      → (p .kind ≡ 0 → ⊥) → Puts tape out tape′ next es → Took c t due l at tape out tape′ left (p .next) (p .start + p .size) next
+  took-one due left es tape out tape′ next m n w = record {
+    events = es;
+    puts = w;
+    ahead = F .ahead;
+    inside = F .inside n;
+    fits = F .fits;
+    reads = λ K. run-at (due ++ K) ∙ rw (m K);
+  }
+
+  pub stop-one : (due : List Sym) (number : ℕ) → ((K : List Sym) → step c l (due ++ K) (tokenOf p) ≡ stop number)
+      → (K : List Sym) → run c (due ++ K) l (rest t at) ≡ refused number (p .start)
+  stop-one due number m K = run-at (due ++ K) ∙ rw (m K)
+
+-- one reading, and then another
+pub took-then : {c : Bool} {t : List ℕ} {due mid left : List Sym} {l at : ℕ} {tape : List ℕ} {out : ℕ} {tape′ : List ℕ} {n e o : ℕ} {tape″ : List ℕ} {n′ e′ o′ : ℕ}
+    → Took c t due l at tape out tape′ mid n e o → Took c t mid e n tape′ o tape″ left n′ e′ o′ → Took c t due l at tape out tape″ left n′ e′ o′
+took-then {c} {t} {due} {mid} {left} {n′ = n′} {e′ = e′} a b = record {
+  events = a .events ++ b .events;
+  puts = puts-then (a .puts) (b .puts);
+  ahead = let x = a .ahead in let y = b .ahead in omega arith;
+  inside = b .inside;
+  fits = b .fits;
+  reads = λ K. a .reads K ∙ rw (b .reads K) (emits-append (a .events) (b .events) (run c (left ++ K) e′ (rest t n′)));
+}
+
+pub stop-then : {c : Bool} {t : List ℕ} {due mid : List Sym} {l at : ℕ} {tape : List ℕ} {out : ℕ} {tape′ : List ℕ} {n e o : ℕ}
+    → Took c t due l at tape out tape′ mid n e o → (number place : ℕ) → ((K : List Sym) → run c (mid ++ K) e (rest t n) ≡ refused number place)
+    → (K : List Sym) → run c (due ++ K) l (rest t at) ≡ refused number place
+stop-then a number place b K = a .reads K ∙ rw (b K)
+
+-- the same reading, with X due below
+pub took-above : {c : Bool} {t : List ℕ} {due left : List Sym} {l at : ℕ} {tape : List ℕ} {out : ℕ} {tape′ : List ℕ} {n e o : ℕ}
+    → (X : List Sym) → Took c t due l at tape out tape′ left n e o → Took c t (due ++ X) l at tape out tape′ (left ++ X) n e o
+took-above {due = due} {left = left} X a = record {
+  events = a .events;
+  puts = a .puts;
+  ahead = a .ahead;
+  inside = a .inside;
+  fits = a .fits;
+  reads = λ K. rw (append-assoc due X K, append-assoc left X K) (a .reads (X ++ K));
+}
+
+pub stop-above : (c : Bool) (t : List ℕ) (due : List Sym) (l at number place : ℕ) (X : List Sym) → ((K : List Sym) → run c (due ++ K) l (rest t at) ≡ refused number place)
+    → (K : List Sym) → run c ((due ++ X) ++ K) l (rest t at) ≡ refused number place
+stop-above c t due l at number place X a K = rw (append-assoc due X K) (a (X ++ K))
+
+-- a reading after which a node closes
+pub took-closed : {c : Bool} {t : List ℕ} {due left : List Sym} {l at : ℕ} {tape : List ℕ} {out : ℕ} {tape′ : List ℕ} {n e o code start : ℕ} {tape″ : List ℕ} {o′ : ℕ}
+    → Took c t due l at tape out tape′ (close code start ∷ left) n e o → Puts tape′ o tape″ o′ (closes code start e ∷ [])
+    → Took c t due l at tape out tape″ left n e o′
+took-closed {c} {t} {due} {left} {n = n} {e = e} {code = code} {start = start} a w = record {
+  events = a .events ++ (closes code start e ∷ []);
+  puts = puts-then (a .puts) w;
+  ahead = a .ahead;
+  inside = a .inside;
+  fits = a .fits;
+  reads = λ K. a .reads K ∙ rw (close-now c code start e (left ++ K) (rest t n)) (emits-append (a .events) (closes code start e ∷ []) (run c (left ++ K) e (rest t n)));
+}
