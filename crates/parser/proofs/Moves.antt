@@ -12,7 +12,9 @@ use Rattle.syntax.specs.Machine.{Sym, close, Move, go, stop, halt, also, step, 
 use Rattle.parser.specs.declared.Peeked.{Peeked}
 use Rattle.parser.specs.View.{Holds, rest, tokenOf, Front}
 use Rattle.parser.specs.Events.{Puts}
-use Rattle.parser.specs.Promise.{Took}
+use Rattle.parser.specs.declared.Step.{Step}
+use Rattle.parser.specs.declared.Step.the-variants.{Done, Stop}
+use Rattle.parser.specs.Promise.{Took, Outcome, took, stopped}
 use Rattle.parser.proofs.Events.{puts-none, puts-then}
 
 pub emits-append : (es fs : List Item) (x : Read) → emits es (emits fs x) ≡ emits (es ++ fs) x
@@ -41,7 +43,7 @@ narrow t tape at p H F = let s = H .short in let f = F .fits in omega arith
 
 -- one token, which p is
 module _ (c : Bool) (t : List ℕ) (l at : ℕ) (p : Peeked) (F : Front t at p) where
-  run-at : (S : List Sym) → run c S l (rest t at) ≡ moved (step c l S (tokenOf p)) (p .start) (λ K. run c K (endOf (tokenOf p)) (rest t (p .next)))
+  pub run-at : (S : List Sym) → run c S l (rest t at) ≡ moved (step c l S (tokenOf p)) (p .start) (λ K. run c K (endOf (tokenOf p)) (rest t (p .next)))
   unfolding run
   run-at S = rw (F .first)
 
@@ -105,3 +107,70 @@ took-closed {c} {t} {due} {left} {n = n} {e = e} {code = code} {start = start} a
   fits = a .fits;
   reads = λ K. a .reads K ∙ rw (close-now c code start e (left ++ K) (rest t n)) (emits-append (a .events) (closes code start e ∷ []) (run c (left ++ K) e (rest t n)));
 }
+
+-- what an outcome is, by its case
+pub was-done : {c : Bool} {t : List ℕ} {due left : List Sym} {l at : ℕ} {tape : List ℕ} {out : ℕ} {tape′ : List ℕ} {r : Step} → Outcome c t due left l at tape out tape′ r
+    → (n e o : ℕ) → r ≡ Done n e o → Took c t due l at tape out tape′ left n e o
+was-done (took {next = next} {end = end} {out′ = out′} h) n e o q =
+    let a : next ≡ n = cc in
+    let b : end ≡ e = cc in
+    let d : out′ ≡ o = cc in
+    rw (a, b, d) at h
+was-done (stopped k h) n e o q = absurd (let z : _≡_ {A = ℕ} 0 1 = cc in omega arith)
+
+pub was-stopped : {c : Bool} {t : List ℕ} {due left : List Sym} {l at : ℕ} {tape : List ℕ} {out : ℕ} {tape′ : List ℕ} {r : Step} → Outcome c t due left l at tape out tape′ r
+    → (n p : ℕ) → r ≡ Stop n p → (length tape′ ≡ length tape) × ((K : List Sym) → run c (due ++ K) l (rest t at) ≡ refused n p)
+was-stopped (took h) n p q = absurd (let z : _≡_ {A = ℕ} 0 1 = cc in omega arith)
+was-stopped (stopped {number = number} {place = place} k h) n p q =
+    let a : number ≡ n = cc in
+    let b : place ≡ p = cc in
+    (k, rw (a, b) at h)
+
+-- the tape keeps its length
+pub kept-length : {c : Bool} {t : List ℕ} {due left : List Sym} {l at : ℕ} {tape : List ℕ} {out : ℕ} {tape′ : List ℕ} {r : Step} → Outcome c t due left l at tape out tape′ r
+    → length tape′ ≡ length tape
+kept-length (took h) = h .puts .kept
+kept-length (stopped k h) = k
+
+-- a reading, and then another that answers
+pub then : {c : Bool} {t : List ℕ} {due mid left : List Sym} {l at : ℕ} {tape : List ℕ} {out : ℕ} {tape′ : List ℕ} {n e o : ℕ} {tape″ : List ℕ} {r : Step}
+    → Took c t due l at tape out tape′ mid n e o → Outcome c t mid left e n tape′ o tape″ r → Outcome c t due left l at tape out tape″ r
+then a (took h) = took (took-then a h)
+then a (stopped {number = number} {place = place} k h) = stopped (k ∙ a .puts .kept) (stop-then a number place h)
+
+-- with X due below
+pub above : {c : Bool} {t : List ℕ} {due left : List Sym} {l at : ℕ} {tape : List ℕ} {out : ℕ} {tape′ : List ℕ} {r : Step}
+    → (X : List Sym) → Outcome c t due left l at tape out tape′ r → Outcome c t (due ++ X) (left ++ X) l at tape out tape′ r
+above X (took h) = took (took-above X h)
+above {c} {t} {due} {left} {l} {at} X (stopped {number = number} {place = place} k h) = stopped k (stop-above c t due l at number place X h)
+
+-- the same reading, where something else is due that is read the same there
+pub same-due : {c : Bool} {t : List ℕ} {due left : List Sym} {l at : ℕ} {tape : List ℕ} {out : ℕ} {tape′ : List ℕ} {r : Step} (due′ : List Sym)
+    → ((K : List Sym) → run c (due′ ++ K) l (rest t at) ≡ run c (due ++ K) l (rest t at)) → Outcome c t due left l at tape out tape′ r
+    → Outcome c t due′ left l at tape out tape′ r
+same-due due′ f (took h) = took (record {
+  events = h .events;
+  puts = h .puts;
+  ahead = h .ahead;
+  inside = h .inside;
+  fits = h .fits;
+  reads = λ K. f K ∙ h .reads K;
+})
+same-due due′ f (stopped k h) = stopped k (λ K. f K ∙ h K)
+
+-- ---- loops: what was read since item number i₀, with `due` still due: nothing yet, or some
+
+pub data Passed (c : Bool) (t : List ℕ) (due : List Sym) (i₀ : ℕ) (tape : List ℕ) (out : ℕ) : List ℕ → ℕ → ℕ → Type 0 where
+  begun : Passed c t due i₀ tape out tape i₀ out
+  some : {tape′ : List ℕ} {i o : ℕ} (e : ℕ) → ((l : ℕ) → Took c t due l i₀ tape out tape′ due i e o) → Passed c t due i₀ tape out tape′ i o
+
+-- the loop goes on, or ends
+pub passed-then : {c : Bool} {t : List ℕ} {due left : List Sym} {i₀ : ℕ} {tape : List ℕ} {out : ℕ} {tape′ : List ℕ} {i o : ℕ} {tape″ : List ℕ} {r : Step}
+    → Passed c t due i₀ tape out tape′ i o → ((l : ℕ) → Outcome c t due left l i tape′ o tape″ r) → (l : ℕ) → Outcome c t due left l i₀ tape out tape″ r
+passed-then begun f l = f l
+passed-then (some e h) f l = then (h l) (f e)
+
+pub passed-more : {c : Bool} {t : List ℕ} {due : List Sym} {i₀ : ℕ} {tape : List ℕ} {out : ℕ} {tape′ : List ℕ} {i o : ℕ} {tape″ : List ℕ} {n e q : ℕ}
+    → Passed c t due i₀ tape out tape′ i o → ((l : ℕ) → Took c t due l i tape′ o tape″ due n e q) → Passed c t due i₀ tape out tape″ n q
+passed-more {e = e} begun f = some e f
+passed-more {e = e} (some d h) f = some e (λ l. took-then (h l) (f d))

@@ -23,7 +23,7 @@ pub record Took (c : Bool) (t : List ℕ) (due : List Sym) (l at : ℕ) (tape : 
   pub reads : (K : List Sym) → run c (due ++ K) l (rest t at) ≡ emits events (run c (left ++ K) end (rest t next))
 
 -- what a function answers: what was due was read, and `left` is still due; or it was refused
-abbrev pub Outcome : (c : Bool) (t : List ℕ) (due left : List Sym) (l at : ℕ) (tape : List ℕ) (out : ℕ) (tape′ : List ℕ) → Step → Type 0
-Outcome c t due left l at tape out tape′ (Done next end out′) = Took c t due l at tape out tape′ left next end out′
-Outcome c t due left l at tape out tape′ (Stop number place) =
-    (length tape′ ≡ length tape) × ((K : List Sym) → run c (due ++ K) l (rest t at) ≡ refused number place)
+pub data Outcome (c : Bool) (t : List ℕ) (due left : List Sym) (l at : ℕ) (tape : List ℕ) (out : ℕ) (tape′ : List ℕ) : Step → Type 0 where
+  took : {next end out′ : ℕ} → Took c t due l at tape out tape′ left next end out′ → Outcome c t due left l at tape out tape′ (Done next end out′)
+  stopped : {number place : ℕ} → length tape′ ≡ length tape → ((K : List Sym) → run c (due ++ K) l (rest t at) ≡ refused number place)
+      → Outcome c t due left l at tape out tape′ (Stop number place)

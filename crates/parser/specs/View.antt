@@ -36,3 +36,8 @@ pub record Front (t : List ℕ) (at : ℕ) (r : Peeked) : Type 0 where
   -- unless it is Eof, an item follows
   pub inside : (r .kind ≡ 0 → ⊥) → r .next < length (items t)
   pub fits : r .start + r .size ≤ length t
+
+-- r is the first token of t from some item on
+pub record Seen (t : List ℕ) (r : Peeked) : Type 0 where
+  pub at : ℕ
+  pub front : Front t at r

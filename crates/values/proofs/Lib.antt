@@ -1,1 +1,3 @@
 -- Laws of values.
+pub mod Steps
+pub mod Loops

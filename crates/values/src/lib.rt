@@ -9,7 +9,7 @@ ghost use lib.ListN.{length};
 ghost use Rattle.rules.specs.Items.{items as itemsOf};
 ghost use Rattle.syntax.specs.Token.{isName, isEnum, endOf, opens, closes, nameEvents, tokenEvent};
 ghost use Rattle.syntax.specs.Machine.{value as valueDue, deeper, items as itemsDue, fields, name as nameDue, colonDue, close};
-ghost use Rattle.parser.specs.View.{Holds, Front, tokenOf};
+ghost use Rattle.parser.specs.View.{Holds, Front, Seen, tokenOf};
 ghost use Rattle.parser.specs.Events.{Puts};
 ghost use Rattle.parser.specs.Promise.{Outcome};
 ghost use Rattle.values.specs.Scalars.{scalarNode};
@@ -126,8 +126,7 @@ pub fn colon(text: &[u8], items: &[u8], at: usize, events: &mut [u8], out: usize
 fn variable(text: &[u8], items: &[u8], token: Peeked, events: &mut [u8], out: usize) -> Step
     requires { ⌜ Holds (now text) (now items) ⌝ }
     requires { ⌜ token .kind ≡ 5 ⌝ }
-    requires { ⌜ token .start + token .size < 2 ^ 28 ⌝ }
-    requires { ⌜ token .next < length (itemsOf (now text)) ⌝ }
+    requires { ⌜ Seen (now text) token ⌝ }
     ensures { λ r. ⌜ ((at l depth : ℕ) → Front (now (text .entry)) at token → Outcome false (now (text .entry)) (valueDue depth ∷ []) [] l at (now (events .entry)) out (now (events .exit)) r) ⌝ }
 {
     let opened = open_with(11, token, events, out);
@@ -205,8 +204,7 @@ fn list_value(
 ) -> Step
     requires { ⌜ Holds (now text) (now items) ⌝ }
     requires { ⌜ token .kind ≡ 13 ⌝ }
-    requires { ⌜ token .start + token .size < 2 ^ 28 ⌝ }
-    requires { ⌜ token .next < length (itemsOf (now text)) ⌝ }
+    requires { ⌜ Seen (now text) token ⌝ }
     ensures { λ r. ⌜ ((at l : ℕ) → Front (now (text .entry)) at token → Outcome constant (now (text .entry)) (valueDue depth ∷ []) [] l at (now (events .entry)) out (now (events .exit)) r) ⌝ }
 {
     let start = token.start;
@@ -250,8 +248,7 @@ fn list_value(
 fn field_name(text: &[u8], items: &[u8], token: Peeked, events: &mut [u8], out: usize) -> Step
     requires { ⌜ Holds (now text) (now items) ⌝ }
     requires { ⌜ isName (token .kind) ≡ true ⌝ }
-    requires { ⌜ token .start + token .size < 2 ^ 28 ⌝ }
-    requires { ⌜ token .next < length (itemsOf (now text)) ⌝ }
+    requires { ⌜ Seen (now text) token ⌝ }
     ensures { λ r. ⌜ ((c : Bool) (at l depth start : ℕ) → Front (now (text .entry)) at token → Outcome c (now (text .entry)) (fields depth start ∷ []) (deeper depth ∷ close 10 (token .start) ∷ fields depth start ∷ []) l at (now (events .entry)) out (now (events .exit)) r) ⌝ }
 {
     let opened = parser::put_open(events, out, 10, token.start);
@@ -271,8 +268,7 @@ fn object_field(
 ) -> Step
     requires { ⌜ Holds (now text) (now items) ⌝ }
     requires { ⌜ isName (token .kind) ≡ true ⌝ }
-    requires { ⌜ token .start + token .size < 2 ^ 28 ⌝ }
-    requires { ⌜ token .next < length (itemsOf (now text)) ⌝ }
+    requires { ⌜ Seen (now text) token ⌝ }
     ensures { λ r. ⌜ ((at l start : ℕ) → Front (now (text .entry)) at token → Outcome constant (now (text .entry)) (fields depth start ∷ []) (fields depth start ∷ []) l at (now (events .entry)) out (now (events .exit)) r) ⌝ }
 {
     match field_name(text, items, token, events, out) {
@@ -309,8 +305,7 @@ fn object_value(
 ) -> Step
     requires { ⌜ Holds (now text) (now items) ⌝ }
     requires { ⌜ token .kind ≡ 15 ⌝ }
-    requires { ⌜ token .start + token .size < 2 ^ 28 ⌝ }
-    requires { ⌜ token .next < length (itemsOf (now text)) ⌝ }
+    requires { ⌜ Seen (now text) token ⌝ }
     ensures { λ r. ⌜ ((at l : ℕ) → Front (now (text .entry)) at token → Outcome constant (now (text .entry)) (valueDue depth ∷ []) [] l at (now (events .entry)) out (now (events .exit)) r) ⌝ }
 {
     let start = token.start;
