@@ -45,9 +45,9 @@ nth t i h =
     rw (eof-last t) (by (lib.Dec.ltb i (length (tiles itemAt 0 0 t)))
     (λ e. let l = borrow.Author.Tests.ltb-true i _ e in rw (List·getD-append (tiles itemAt 0 0 t) (eof (length t) ∷ []) (eof 0) i l) (before l))
     (λ e.
-        let l = borrow.Author.Tests.ltb-false i _ e in
-        let z : length (tiles itemAt 0 0 t) ≡ i = omega arith in
-        rw (getD-at (tiles itemAt 0 0 t) (eof (length t)) [] (eof 0) i z) (last (sym z))))
+    let l = borrow.Author.Tests.ltb-false i _ e in
+    let z : length (tiles itemAt 0 0 t) ≡ i = omega arith in
+    rw (getD-at (tiles itemAt 0 0 t) (eof (length t)) [] (eof 0) i z) (last (sym z))))
 
 -- each item lies in the text
 pub item-inside : (t : List ℕ) (i : ℕ) → i < length (items t) → getD (items t) i (eof 0) .start + getD (items t) i (eof 0) .size ≤ length t

@@ -132,7 +132,11 @@ fn variable(text: &[u8], items: &[u8], token: Peeked, events: &mut [u8], out: us
     let opened = open_with(11, token, events, out);
     match name(text, items, token.next, events, opened) {
         Step::Stop { number, place } => Step::Stop { number, place },
-        Step::Done { next, end, out: named } => Step::Done {
+        Step::Done {
+            next,
+            end,
+            out: named,
+        } => Step::Done {
             next,
             end,
             out: parser::put_close(events, named, 11, token.start, end),
@@ -236,7 +240,11 @@ fn list_value(
             Step::Stop { number, place } => {
                 return Step::Stop { number, place };
             }
-            Step::Done { next, end: _, out: q } => {
+            Step::Done {
+                next,
+                end: _,
+                out: q,
+            } => {
                 i = next;
                 o = q;
             }
@@ -273,7 +281,11 @@ fn object_field(
 {
     match field_name(text, items, token, events, out) {
         Step::Stop { number, place } => Step::Stop { number, place },
-        Step::Done { next, end: _, out: o } => {
+        Step::Done {
+            next,
+            end: _,
+            out: o,
+        } => {
             if depth == 0 {
                 let t = parser::peek_token(text, items, next);
                 return Step::Stop {
@@ -283,7 +295,11 @@ fn object_field(
             }
             match value(text, items, constant, next, depth - 1, events, o) {
                 Step::Stop { number, place } => Step::Stop { number, place },
-                Step::Done { next: n, end, out: q } => Step::Done {
+                Step::Done {
+                    next: n,
+                    end,
+                    out: q,
+                } => Step::Done {
                     next: n,
                     end,
                     out: parser::put_close(events, q, 10, token.start, end),
@@ -331,7 +347,11 @@ fn object_value(
             Step::Stop { number, place } => {
                 return Step::Stop { number, place };
             }
-            Step::Done { next, end: _, out: q } => {
+            Step::Done {
+                next,
+                end: _,
+                out: q,
+            } => {
                 i = next;
                 o = q;
             }
