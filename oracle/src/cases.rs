@@ -1,0 +1,56 @@
+//! Cases and answers as the program `replay` reads and writes them: crates/replay/src/main.rt says how. All numbers are big-endian.
+use std::io::{self, Read};
+
+pub const ITEMS: u8 = 0;
+pub const PART: u8 = 5;
+pub const INTERFACE: u8 = 6;
+
+#[derive(Clone, Debug)]
+pub struct Case {
+    pub entry: u8,
+    /// The token limit; of a part, its start.
+    pub limit: u64,
+    /// Of the C interface, the entry code; of a part, its length.
+    pub depth: u64,
+    pub item_bytes: usize,
+    pub event_bytes: usize,
+    pub text: Vec<u8>,
+}
+
+/// What a tape's bytes are before the call.
+pub const UNTOUCHED: u8 = 0xA5;
+
+fn number(bytes: &[u8]) -> u64 {
+    bytes.iter().fold(0, |v, b| v << 8 | u64::from(*b))
+}
+
+impl Case {
+    /// The next case; none at the input's end.
+    pub fn read(input: &mut impl Read) -> io::Result<Option<Case>> {
+        let mut head = [0u8; 29];
+        if input.read(&mut head[..1])? == 0 {
+            return Ok(None);
+        }
+        input.read_exact(&mut head[1..])?;
+        let mut text = vec![0; number(&head[25..29]) as usize];
+        input.read_exact(&mut text)?;
+        Ok(Some(Case {
+            entry: head[0],
+            limit: number(&head[1..9]),
+            depth: number(&head[9..17]),
+            item_bytes: number(&head[17..21]) as usize,
+            event_bytes: number(&head[21..25]) as usize,
+            text,
+        }))
+    }
+
+    pub fn write(&self, out: &mut Vec<u8>) {
+        out.push(self.entry);
+        out.extend(self.limit.to_be_bytes());
+        out.extend(self.depth.to_be_bytes());
+        out.extend((self.item_bytes as u32).to_be_bytes());
+        out.extend((self.event_bytes as u32).to_be_bytes());
+        out.extend((self.text.len() as u32).to_be_bytes());
+        out.extend(&self.text);
+    }
+}
