@@ -1,9 +1,38 @@
 //! Document 01's answer to a case: its table of numbers and its packing, written by hand over the crate's items.
-use crate::cases::{Case, INTERFACE, ITEMS, PART, UNTOUCHED};
+use crate::cases::{Call, INTERFACE, ITEMS, PART, UNTOUCHED};
 use crate::items::{items_of, limit_agrees, Item};
 
 /// The longest text, in bytes.
 const LONGEST: usize = 16_777_216;
+
+/// What a text gives, whatever the limit and the tapes.
+pub enum Reading<'a> {
+    TooLong,
+    /// Not UTF-8, from this place on.
+    IllFormed(usize),
+    Items(&'a str, Vec<Item>),
+}
+
+/// Reads a text. An `Err` is what the crate did that no answer follows from.
+pub fn read_text(text: &[u8]) -> Result<Reading<'_>, String> {
+    if text.len() > LONGEST {
+        return Ok(Reading::TooLong);
+    }
+    match std::str::from_utf8(text) {
+        Err(error) => Ok(Reading::IllFormed(error.valid_up_to())),
+        Ok(text) => Ok(Reading::Items(text, items_of(text)?)),
+    }
+}
+
+impl Reading<'_> {
+    /// The items, Eof included; none if the text is refused.
+    pub fn items(&self) -> &[Item] {
+        match self {
+            Reading::Items(_, items) => items,
+            _ => &[],
+        }
+    }
+}
 
 struct Answer {
     number: u64,
@@ -29,53 +58,59 @@ fn given(text: &str, items: &[Item], limit: u64, room: usize) -> Answer {
     Answer { number: 0, place: text.len(), items: items.len() }
 }
 
+fn answer_of(call: &Call, reading: &Reading) -> Result<Answer, String> {
+    if call.entry == INTERFACE && call.depth != 0 {
+        return Ok(refusal(11, 0));
+    }
+    match reading {
+        Reading::TooLong => Ok(refusal(2, 0)),
+        Reading::IllFormed(place) => Ok(refusal(3, *place)),
+        Reading::Items(text, items) => {
+            if call.limit <= items.len() as u64 {
+                limit_agrees(text, items, call.limit as usize)?;
+            }
+            Ok(given(text, items, call.limit, call.item_bytes / 8))
+        }
+    }
+}
+
 /// 8 bits code, 28 bits start, 28 bits length, most significant first.
 fn entry(item: &Item) -> [u8; 8] {
     (u64::from(item.code) << 56 | (item.start as u64) << 28 | item.length as u64).to_be_bytes()
 }
 
-/// Appends the answer's bytes: 32, and both tapes. For a part, 8 and the part. An `Err` is what the crate did that no answer follows from.
-pub fn write_answer(case: &Case, out: &mut Vec<u8>) -> Result<(), String> {
-    if case.entry == PART {
-        return write_part(case, out);
+/// Appends the answer's bytes to a call of items or of the C interface: 32, and both tapes.
+pub fn write_answer(call: &Call, reading: &Reading, out: &mut Vec<u8>) -> Result<(), String> {
+    if call.entry != ITEMS && call.entry != INTERFACE {
+        return Err(format!("entry {} is none of items, part and C interface", call.entry));
     }
-    if case.entry != ITEMS && case.entry != INTERFACE {
-        return Err(format!("entry {} is none of items, part and C interface", case.entry));
-    }
-    let mut items = Vec::new();
-    let answer = if case.entry == INTERFACE && case.depth != 0 {
-        refusal(11, 0)
-    } else if case.text.len() > LONGEST {
-        refusal(2, 0)
-    } else {
-        match std::str::from_utf8(&case.text) {
-            Err(error) => refusal(3, error.valid_up_to()),
-            Ok(text) => {
-                items = items_of(text)?;
-                if case.limit <= items.len() as u64 {
-                    limit_agrees(text, &items, case.limit as usize)?;
-                }
-                given(text, &items, case.limit, case.item_bytes / 8)
-            }
-        }
-    };
+    let answer = answer_of(call, reading)?;
     out.extend(answer.number.to_be_bytes());
     out.extend((answer.place as u64).to_be_bytes());
     out.extend((answer.items as u64).to_be_bytes());
     out.extend(0u64.to_be_bytes());
     let tape = out.len();
-    for item in &items[..answer.items] {
+    for item in &reading.items()[..answer.items] {
         out.extend(entry(item));
     }
-    out.resize(tape + case.item_bytes + case.event_bytes, UNTOUCHED);
+    out.resize(tape + call.item_bytes + call.event_bytes, UNTOUCHED);
     Ok(())
 }
 
-/// The part from `limit` on, `depth` long; empty if it passes the end, as whole numbers.
-fn write_part(case: &Case, out: &mut Vec<u8>) -> Result<(), String> {
-    let end = u128::from(case.limit) + u128::from(case.depth);
-    let part = if end > case.text.len() as u128 { &[][..] } else { &case.text[case.limit as usize..end as usize] };
+/// Appends a part, `depth` long from `limit` on, with its length in 8 bytes; empty if it passes the end, as whole numbers.
+pub fn write_part(call: &Call, text: &[u8], out: &mut Vec<u8>) {
+    let end = u128::from(call.limit) + u128::from(call.depth);
+    let part = if end > text.len() as u128 { &[][..] } else { &text[call.limit as usize..end as usize] };
     out.extend((part.len() as u64).to_be_bytes());
     out.extend(part);
-    Ok(())
+}
+
+/// Appends the answer to a case of any of the three entries.
+pub fn write_any(call: &Call, text: &[u8], out: &mut Vec<u8>) -> Result<(), String> {
+    if call.entry == PART {
+        write_part(call, text, out);
+        Ok(())
+    } else {
+        write_answer(call, &read_text(text)?, out)
+    }
 }
