@@ -175,10 +175,14 @@ fn alone(path: &str, call: &Call, text: &[u8]) -> Option<(String, String)> {
     }
     let mut case = Vec::new();
     write_case(call, text, &mut case);
-    let mut replay = Replay::start(path).ok()?;
-    let given = replay.answers(case, expected.len()).ok()?;
-    replay.finish().ok()?;
-    (given.len() == expected.len() && given != expected).then(|| (class_of(call, &expected, &given), difference(call, &expected, &given)))
+    match Replay::start(path).and_then(|replay| replay.last_answers(case)) {
+        Err(words) => Some(("replay fails".to_string(), words)),
+        Ok(given) if given == expected => None,
+        Ok(given) if call.entry != PART && given.len() != expected.len() || given.len() < 8 => {
+            Some(("an answer's size".to_string(), format!("{} bytes expected, {} given", expected.len(), given.len())))
+        }
+        Ok(given) => Some((class_of(call, &expected, &given), difference(call, &expected, &given))),
+    }
 }
 
 fn difference(call: &Call, expected: &[u8], given: &[u8]) -> String {
@@ -265,18 +269,23 @@ fn parts(c: &mut Comparison, times: usize) -> Result<(), String> {
     parts_flush(c)
 }
 
-/// An answer's length is not known beforehand if it is wrong: then each is tried alone.
+/// An answer's length is not known beforehand if it is wrong: then some are tried alone, the shortest texts first.
 fn parts_flush(c: &mut Comparison) -> Result<(), String> {
-    let mut replay = Replay::start(&c.path)?;
-    let answers = replay.answers(c.cases.clone(), c.expected.len())?;
-    if replay.finish().is_err() || answers != c.expected {
+    let answers = Replay::start(&c.path)?.last_answers(c.cases.clone());
+    if answers.as_ref() != Ok(&c.expected) {
+        c.marks.sort_by_key(|mark| mark.text.len());
+        let mut found = 0;
         for mark in &c.marks {
             let text = &c.cases[mark.text.clone()];
             if let Some((class, words)) = alone(&c.path, &mark.call, text) {
                 c.findings.add(class, &mark.call, text, words);
+                found += 1;
+            }
+            if found == 4 {
+                break;
             }
         }
-        if c.findings.0.is_empty() {
+        if found == 0 {
             return Err("parts differ together, and none alone".to_string());
         }
     }
@@ -345,6 +354,9 @@ pub fn compare(choice: &Choice) -> Result<bool, String> {
     c.findings.print();
     println!("{} classes of difference", c.findings.0.len());
     let same = c.findings.0.is_empty();
-    c.replay.finish()?;
+    let rest = c.replay.last_answers(Vec::new())?;
+    if !rest.is_empty() {
+        return Err(format!("replay wrote {} bytes after its last answer", rest.len()));
+    }
     Ok(same)
 }

@@ -39,21 +39,20 @@ impl Replay {
         Ok(answers)
     }
 
-    /// Closes its input: it has to end well, with nothing more to say.
-    pub fn finish(mut self) -> Result<(), String> {
-        self.input = None;
+    /// Hands over the last cases and closes its input: all answers that were not read yet. It has to end well.
+    pub fn last_answers(mut self, cases: Vec<u8>) -> Result<Vec<u8>, String> {
+        if let Some(input) = self.input.take() {
+            let _ = input.send(cases);
+        }
+        let mut answers = Vec::new();
+        self.output.read_to_end(&mut answers).map_err(|e| e.to_string())?;
         if let Some(writer) = self.writer.take() {
             writer.join().map_err(|_| "the writer failed".to_string())?;
         }
-        let mut rest = Vec::new();
-        self.output.read_to_end(&mut rest).map_err(|e| e.to_string())?;
         let status = self.child.wait().map_err(|e| e.to_string())?;
-        if !rest.is_empty() {
-            return Err(format!("replay wrote {} bytes after its last answer", rest.len()));
-        }
         if !status.success() {
             return Err(format!("replay ended with {status}"));
         }
-        Ok(())
+        Ok(answers)
     }
 }
