@@ -24,7 +24,14 @@ impl Findings {
 
     pub fn print(&self) {
         for (class, finding) in &self.0 {
-            println!("\n{}: {} times. The smallest:\n    {} {}\n    {}", class, finding.times, notation(&finding.text), call_words(&finding.call), finding.words);
+            println!(
+                "\n{}: {} times. The smallest:\n    {} {}\n    {}",
+                class,
+                finding.times,
+                notation(&finding.text),
+                call_words(&finding.call),
+                finding.words
+            );
         }
     }
 }

@@ -1,6 +1,7 @@
 //! Random texts: soups of pieces, queries as people write them, damaged copies of those, bytes, and long ones.
 use crate::chance::Chance;
 
+#[rustfmt::skip]
 const PIECES: [&str; 64] = [
     "!", "$", "&", "(", ")", "...", "..", ".", ":", "=", "@", "[", "]", "{", "|", "}", ",", " ", "\t", "\n", "\r", "\r\n", "\u{FEFF}", "#", "# c\n", "a",
     "Z", "_", "e", "E", "u", "on", "0", "1", "9", "-", "+", "00", "1.5", "-1e5", "1e+", "\"", "\"\"", "\"\"\"", "\\", "\\\"", "\\\"\"\"", "\\u", "\\u{",
@@ -39,7 +40,8 @@ struct Writer<'a> {
     out: String,
 }
 
-const NAMES: [&str; 16] = ["id", "name", "user", "a", "node", "_x", "edges", "Query", "on", "true", "null", "ENUM_1", "__typename", "createdAt", "e", "E9"];
+const NAMES: [&str; 16] =
+    ["id", "name", "user", "a", "node", "_x", "edges", "Query", "on", "true", "null", "ENUM_1", "__typename", "createdAt", "e", "E9"];
 
 impl Writer<'_> {
     fn put(&mut self, text: &str) {
