@@ -1,0 +1,132 @@
+//! Differences by class, with the smallest case of each.
+use crate::cases::{Call, INTERFACE, PART, UNTOUCHED};
+use std::collections::BTreeMap;
+use std::fmt::Write;
+
+pub struct Finding {
+    pub times: u64,
+    pub call: Call,
+    pub text: Vec<u8>,
+    pub words: String,
+}
+
+#[derive(Default)]
+pub struct Findings(pub BTreeMap<String, Finding>);
+
+impl Findings {
+    pub fn add(&mut self, class: String, call: &Call, text: &[u8], words: String) {
+        let finding = self.0.entry(class).or_insert_with(|| Finding { times: 0, call: *call, text: text.to_vec(), words: words.clone() });
+        finding.times += 1;
+        if (text.len(), text) < (finding.text.len(), &finding.text[..]) {
+            (finding.call, finding.text, finding.words) = (*call, text.to_vec(), words);
+        }
+    }
+
+    pub fn print(&self) {
+        for (class, finding) in &self.0 {
+            println!(
+                "\n{}: {} times. The smallest:\n    {} {}\n    {}",
+                class,
+                finding.times,
+                notation(&finding.text),
+                call_words(&finding.call),
+                finding.words
+            );
+        }
+    }
+}
+
+fn number(bytes: &[u8], at: usize) -> u64 {
+    bytes[at..at + 8].iter().fold(0, |v, b| v << 8 | u64::from(*b))
+}
+
+/// In what two answers to a call differ, first field first. The first is the one expected.
+pub fn class_of(call: &Call, expected: &[u8], given: &[u8]) -> String {
+    if call.entry == PART {
+        return "a part".to_string();
+    }
+    let fields = ["number", "place", "item count", "event count"];
+    for (i, field) in fields.iter().enumerate() {
+        let (e, g) = (number(expected, 8 * i), number(given, 8 * i));
+        if e != g {
+            return if i == 0 { format!("number {e} expected, {g} given") } else { format!("{field}, with number {}", number(expected, 0)) };
+        }
+    }
+    let count = number(expected, 16) as usize;
+    for at in (0..count).map(|i| 32 + 8 * i) {
+        let (e, g) = (number(expected, at), number(given, at));
+        if e >> 56 != g >> 56 {
+            return format!("item {} expected, {} given", e >> 56, g >> 56);
+        }
+        if e != g {
+            return format!("start or length of item {}", e >> 56);
+        }
+    }
+    "tape bytes past the last entry".to_string()
+}
+
+/// An answer in the notation of cases/items.txt.
+pub fn answer_words(call: &Call, answer: &[u8]) -> String {
+    if call.entry == PART {
+        return notation(&answer[8..]);
+    }
+    let (number_, place, count, events) = (number(answer, 0), number(answer, 8), number(answer, 16), number(answer, 24));
+    let mut words = format!("{number_} {place} {count}");
+    let listed = (count as usize).min(call.item_bytes / 8);
+    for i in 0..listed.min(24) {
+        let entry = number(answer, 32 + 8 * i);
+        let _ = write!(words, "{} {} {} {}", if i == 0 { ":" } else { "," }, entry >> 56, entry >> 28 & 0xFFF_FFFF, entry & 0xFFF_FFFF);
+    }
+    if listed > 24 {
+        words.push_str(", ...");
+    }
+    if events != 0 {
+        let _ = write!(words, " and {events} events");
+    }
+    if answer[32 + 8 * listed..].iter().any(|b| *b != UNTOUCHED) {
+        words.push_str(" and other bytes touched");
+    }
+    words
+}
+
+fn call_words(call: &Call) -> String {
+    match call.entry {
+        PART => format!("part {} {}", call.limit, call.depth),
+        INTERFACE => format!("interface {} limit {} tape {} events {}", call.depth, call.limit, call.item_bytes, call.event_bytes),
+        _ => format!("limit {} tape {} events {}", call.limit, call.item_bytes, call.event_bytes),
+    }
+}
+
+/// A text in the notation of cases/items.txt.
+pub fn notation(text: &[u8]) -> String {
+    if text.is_empty() {
+        return "empty".to_string();
+    }
+    let mut words = String::new();
+    for chunk in text.utf8_chunks() {
+        let mut plain = false;
+        for c in chunk.valid().chars() {
+            let shown = (' '..='~').contains(&c) && c != '`';
+            if shown != plain {
+                words.push_str(if shown && !words.is_empty() { " `" } else { "`" });
+                plain = shown;
+            }
+            match c {
+                _ if shown => words.push(c),
+                '\n' => words.push_str(" LF"),
+                '\r' => words.push_str(" CR"),
+                '\t' => words.push_str(" TAB"),
+                c => {
+                    let _ = write!(words, " U+{:X}", c as u32);
+                }
+            }
+        }
+        if plain {
+            words.push('`');
+        }
+        for b in chunk.invalid() {
+            let _ = write!(words, " hex({b:02X})");
+        }
+    }
+    words.trim_start().to_string()
+}
