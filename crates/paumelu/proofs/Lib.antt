@@ -1,2 +1,3 @@
 -- Laws of the entries.
 pub mod Codes
+pub mod Cases
