@@ -5,3 +5,4 @@ pub mod Spans
 pub mod Entries
 pub mod Laws
 pub mod Examples
+pub mod Unique
