@@ -4,3 +4,4 @@ pub mod Fronts
 pub mod Lexed
 pub mod Steps
 pub mod Advance
+pub mod Unique

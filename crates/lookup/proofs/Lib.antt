@@ -1,2 +1,3 @@
 -- Laws of classes.
 pub mod Classes
+pub mod Unique

@@ -1,2 +1,4 @@
 -- Laws of the entries.
 pub mod Codes
+pub mod Cases
+pub mod Unique

@@ -1,8 +1,8 @@
 // UTF-8 by RFC 3629: the character at the front of a slice, and the first byte where no well-formed sequence begins.
+use base::byte_at;
+use base::within;
 ghost use mathlib.Core.Path.{_≡_};
 ghost use Prim.Native.Nat.{_<_};
-ghost use lib.ListN.{getD};
-ghost use Rattle.base.specs.Text.{from};
 ghost use Rattle.utf8.specs.Utf8.{tail};
 ghost use Rattle.utf8.specs.Sequence.{three, four, sequenceBy, sequence, valueBy, wellFormed, width, size};
 ghost use Rattle.utf8.specs.Answers.{characterOf, checkedOf};
@@ -17,23 +17,6 @@ pub enum Character {
 pub enum Checked {
     Whole,
     Refused { number: usize, place: usize },
-}
-
-// The byte at i, or 0 past the end.
-fn byte(s: &[u8], i: usize) -> u8
-    ensures { λ r. ⌜ r ≡ getD (now (s .entry)) i 0 ⌝ }
-{
-    if i < s.len() { s[i] } else { 0 }
-}
-
-// Is the byte one from low to high?
-fn within(low: u8, high: u8, b: u8) -> bool
-    ensures { λ r. ⌜ r ≡ from low high b ⌝ }
-{
-    if b < low {
-        return false;
-    }
-    b <= high
 }
 
 // UTF8-tail.
@@ -115,7 +98,7 @@ fn sequence_at(s: &[u8]) -> usize
     if a < 0x80 {
         return 1;
     }
-    sequence_by(a, byte(s, 1), byte(s, 2), byte(s, 3))
+    sequence_by(a, byte_at(s, 1), byte_at(s, 2), byte_at(s, 3))
 }
 
 fn wide(b: u8) -> u32
@@ -151,7 +134,13 @@ pub fn decode(s: &[u8]) -> Character
         return Character::Refused { number: 3 };
     }
     Character::Scalar {
-        value: value_by(n, byte(s, 0), byte(s, 1), byte(s, 2), byte(s, 3)),
+        value: value_by(
+            n,
+            byte_at(s, 0),
+            byte_at(s, 1),
+            byte_at(s, 2),
+            byte_at(s, 3),
+        ),
         size: n,
     }
 }
