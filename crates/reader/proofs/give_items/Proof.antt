@@ -1,5 +1,5 @@
 -- `reader::give_items` meets its contract: the invariant is `Head` of proofs/Reading, whose laws say what each way out and a turn make of it. Assumes nothing.
-use mathlib.Core.Path.{_≡_, refl, sym, ap, _∙_}
+use mathlib.Core.Path.{_∙_}
 use Prim.Native.Nat.{_-_}
 use native.Mathlib.Omega.{arith}
 use borrow.Author.Needs.{needs}
