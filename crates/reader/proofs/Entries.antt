@@ -1,9 +1,8 @@
 -- The table's rows before reading begins: a text that is too long, one that is not UTF-8, and any other. Assumes nothing.
-use mathlib.Core.Path.{_≡_, refl, sym, ap, _∙_}
+use mathlib.Core.Path.{_≡_, sym, _∙_}
 use mathlib.Core.List.{List}
 use Prim.Native.Nat.{ℕ, _≤_, _<_}
 use borrow.Author.Tests.{lt-ltb, le-ltb}
-use lib.Dec.{ltb}
 use lib.ListN.{length}
 use Rattle.utf8.specs.declared.Checked.{Checked}
 use Rattle.utf8.specs.declared.Checked.the-variants.{Whole, Refused}
@@ -11,7 +10,7 @@ use Rattle.utf8.specs.Answers.{checkedOf}
 use Rattle.tape.specs.Entry.{room}
 use Rattle.rules.specs.Items.{items}
 use Rattle.reader.specs.declared.Answer.{Answer}
-use Rattle.reader.specs.Answers.{answer, longest, givenAnswer, givenTape, checkedAnswer, checkedTape, answerOf, tapeOf}
+use Rattle.reader.specs.Answers.{answer, longest, givenAnswer, givenTape, answerOf, tapeOf}
 
 module _ (t : List ℕ) (limit : ℕ) (tape : List ℕ) where
   -- 2

@@ -10,14 +10,14 @@ use Rattle.base.specs.Span.{span}
 use Rattle.utf8.specs.Utf8.{none, one, two}
 use Rattle.utf8.specs.Sequence.{three, four, sequenceBy, sequence, wellFormed, width, size}
 use Rattle.utf8.specs.Answers.{illFormed, checkedOf}
-use Rattle.tape.specs.Entry.{entryOf}
+use Rattle.tape.specs.Entry.{bytes8, entries, entryOf}
 use Rattle.tiles.specs.Tiles.{tiles}
 use Rattle.tiles.specs.Seam.{moved}
 use Rattle.rules.specs.Classes.{digit, nonzero, letter, nameStart, nameContinue, lineEnd, exponentMark, sign, afterNumber}
 use Rattle.rules.specs.Rules as rules
 use Rattle.rules.specs.Tokens.{blankBy, blank, wholeSize, integerSize, fractionSize, exponentSize, numberBy, numberToken, punctuatorAt, tokenAt}
 use Rattle.rules.specs.Items.{fractionFault, numberFault, errorAt, itemAt}
-use Rattle.reader.specs.Answers.{answer, givenAnswer, answerOf, tapeOf}
+use Rattle.reader.specs.Answers.{answer, givenAnswer, givenTape, answerOf, tapeOf}
 use Rattle.reader.specs.Part.{partOf}
 use Rattle.reader.proofs.Laws.{exactly-when, done-all, done-when, read-back, part-utf8, line-end-read}
 
@@ -89,3 +89,9 @@ pub refused-4-5 :
     × (answerOf [] 0 (replicate 8 0) ≡ answer 4 0 0 0)
 unfolding tiles itemAt tokenAt run span digit letter nameStart nameContinue sequenceBy sequence wellFormed checkedOf givenAnswer answerOf
 refused-4-5 = (refl, refl, refl, refl)
+
+-- at the limit one entry is written, `a`'s, and what stood past it stays
+pub limit-tape : tapeOf (97 ∷ []) 1 (replicate 16 0xA5)
+    ≡ 0x12 ∷ 0 ∷ 0 ∷ 0 ∷ 0 ∷ 0 ∷ 0 ∷ 1 ∷ 0xA5 ∷ 0xA5 ∷ 0xA5 ∷ 0xA5 ∷ 0xA5 ∷ 0xA5 ∷ 0xA5 ∷ 0xA5 ∷ []
+unfolding tiles itemAt tokenAt run span digit letter nameStart nameContinue sequenceBy sequence wellFormed checkedOf bytes8 entries givenTape tapeOf
+limit-tape = refl

@@ -1,6 +1,6 @@
 -- Reading with the cursor, on plain values: what holds at the loop's head, and what the cursor's step makes of it. Assumes nothing.
 use mathlib.Core.Path.{_≡_, refl, sym, ap, _∙_}
-use mathlib.Core.Bool.{Bool, true, false}
+use mathlib.Core.Bool.{true}
 use mathlib.Core.List.{List, [], _∷_}
 use Prim.Native.Nat.{ℕ, _+_, _*_, _^_, _≤_, _<_}
 use native.Mathlib.Nat.{not-suc-le-zero}
@@ -8,7 +8,6 @@ use native.Mathlib.Omega.{arith}
 use borrow.Author.Tests.{eqb-true}
 use lib.Dec.{eqb}
 use lib.ListN.{length, drop, length-drop}
-use Rattle.base.specs.Text.{pick}
 use Rattle.base.specs.Item.{Lexeme}
 use Rattle.base.proofs.Tests.{by}
 use Rattle.tape.specs.Entry.{entrySize, room, entry, overAt}
@@ -21,12 +20,12 @@ use Rattle.rules.proofs.Bounds.{item-pos, item-le}
 use Rattle.rules.proofs.Codes.{code-at}
 use Rattle.lexer.specs.declared.cursor.Cursor.{Cursor}
 use Rattle.lexer.specs.declared.cursor.Advanced.{Advanced}
-use Rattle.lexer.specs.Scan.{codeOf, sizeOf, lexedOf}
+use Rattle.lexer.specs.Scan.{codeOf, sizeOf}
 use Rattle.lexer.specs.Cursor.{keptBy, Clear, advancedOf}
 use Rattle.lexer.proofs.Lexed.{code-lexed, size-lexed}
 use Rattle.lexer.proofs.Advance.{quote-item}
 use Rattle.reader.specs.Answers.{longest, answer, givenAnswer, givenTape}
-use Rattle.reader.proofs.Turn.{State, begin, length-tape, fits-entry, at-end, at-end-tape, size-pos, size-le, next}
+use Rattle.reader.proofs.Turn.{State, begin, fits-entry, at-end, at-end-tape, size-pos, next}
 
 -- the loop's head: the cursor stands where the items that were given end
 pub record Head (t old : List ℕ) (limit space : ℕ) (tape : List ℕ) (c : Cursor) (n : ℕ) : Type 0 where

@@ -1,15 +1,15 @@
 -- The loop of reading on plain values, for any rule: what holds at its head, what a turn makes of it, and what each way out answers.
 -- Assumes nothing.
-use mathlib.Core.Path.{_≡_, refl, sym, ap, _∙_}
-use mathlib.Core.List.{List, [], _∷_, _++_}
-use Prim.Native.Nat.{ℕ, zero, suc, _+_, _-_, _*_, _/_, _≤_, _<_, min, zero-le}
-use native.Mathlib.Nat.{not-suc-le-zero, add-zero}
+use mathlib.Core.Path.{_≡_, refl, ap, _∙_}
+use mathlib.Core.List.{List, [], _∷_}
+use Prim.Native.Nat.{ℕ, _+_, _*_, _≤_, _<_, min, zero-le}
+use native.Mathlib.Nat.{add-zero}
 use native.Mathlib.Numerals.{add-one}
 use native.Mathlib.Omega.{arith}
 use borrow.Author.Tests.{le-leb, lt-leb}
-use lib.ListN.{length, take, drop, getD, length-take, length-drop, take-append-drop}
+use lib.ListN.{length, take, drop, length-take, length-drop, take-append-drop}
 use lib.Seq.{take-all, drop-drop}
-use Rattle.base.specs.Item.{Lexeme, Item, item, placed}
+use Rattle.base.specs.Item.{Lexeme, Item, placed}
 use Rattle.base.proofs.Lists.{take-next, drop-next, getD-next, length-next}
 use Rattle.tape.specs.Entry.{entrySize, room, entry, entries, over, overAt}
 use Rattle.tape.proofs.Over.{length-entries, put-next, length-over}

@@ -1,5 +1,5 @@
 -- `paumelu::paumelu_read` meets its contract: it hands the answer over, field by field. Assumes nothing.
-use mathlib.Core.Path.{_≡_, refl, sym, ap, _∙_}
+use mathlib.Core.Path.{ap}
 use Rattle.reader.specs.declared.Answer.{Answer}
 use Rattle.paumelu.proofs.Codes.{unknown-entry, item-entry}
 use borrow.Author.Needs.{needs}

@@ -1,5 +1,5 @@
 -- `reader::give_items` meets its contract: the invariant is `Head` of proofs/Reading, whose laws say what each way out and a turn make of it. Assumes nothing.
-use mathlib.Core.Path.{_≡_, refl, sym, ap, _∙_}
+use mathlib.Core.Path.{_∙_}
 use Prim.Native.Nat.{_-_}
 use native.Mathlib.Omega.{arith}
 use borrow.Author.Needs.{needs}
@@ -50,7 +50,9 @@ size-of-requires : tie.Need-size-of-requires Inv-loop μ-loop
 size-of-requires c κs = search needs
 
 put-entry-requires : tie.Need-put-entry-requires Inv-loop μ-loop
-put-entry-requires c κs = put-fits (c .before .before .before .before .before .before .before .before .before .before .before .before .args .text .now) (c .before .before .before .before .before .before .before .before .before .before .before .before .args .tape .now) (c .before .before .before .before .before .before .before .before .before .before .before .before .args .limit) (c .before .before .before .before .before .before .before .before .capacity .result) (c .before .before .before .before .before .before .loop .tape) (c .before .before .before .before .before .before .loop .cursor) (c .before .before .before .before .before .before .loop .n) (c .before .before .before .before .before .before .loop .inv) (c .before .before .before .advance .result) (c .before .before .before .advance .ensures) (c .before .before .code-of .result) (c .before .before .code-of .ensures) (c .before .size-of .result) (c .before .size-of .ensures) (c .before .before .before .before .before .if1 .left) (c .before .before .before .before .if2 .left)
+put-entry-requires c κs =
+    let f = put-fits (c .before .before .before .before .before .before .before .before .before .before .before .before .args .text .now) (c .before .before .before .before .before .before .before .before .before .before .before .before .args .tape .now) (c .before .before .before .before .before .before .before .before .before .before .before .before .args .limit) (c .before .before .before .before .before .before .before .before .capacity .result) (c .before .before .before .before .before .before .loop .tape) (c .before .before .before .before .before .before .loop .cursor) (c .before .before .before .before .before .before .loop .n) (c .before .before .before .before .before .before .loop .inv) (c .before .before .before .advance .result) (c .before .before .before .advance .ensures) (c .before .before .code-of .result) (c .before .before .code-of .ensures) (c .before .size-of .result) (c .before .size-of .ensures) (c .before .before .before .before .before .if1 .left) (c .before .before .before .before .if2 .left) in
+    (omega (arith, f .0), (omega (arith, f .1 .0), f .1 .1))
 
 add-n : tie.Need-add-n Inv-loop μ-loop
 add-n c =

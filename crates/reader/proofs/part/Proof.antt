@@ -1,5 +1,4 @@
 -- `reader::part` meets its contract. Assumes nothing.
-use mathlib.Core.Path.{_≡_, refl, sym, ap, _∙_}
 use native.Mathlib.Omega.{arith}
 use Rattle.reader.proofs.Spans.{past-start, past-end, part-inside}
 use borrow.Author.Needs.{needs}

@@ -1,5 +1,4 @@
 -- `reader::read_items` meets its contract: the table row by row. Assumes nothing.
-use mathlib.Core.Path.{_≡_, refl, sym, ap, _∙_}
 use Rattle.reader.proofs.Entries.{too-long, not-utf8, read}
 use borrow.Author.Needs.{needs}
 use Rattle.reader.proofs.read_items.Statement.{statement}
