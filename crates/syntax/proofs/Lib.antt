@@ -1,2 +1,4 @@
 -- Laws of the grammar.
 mod Cases
+pub mod Steps
+pub mod ValueComplete
