@@ -2,3 +2,7 @@
 mod Cases
 pub mod Steps
 pub mod ValueComplete
+pub mod Loosen
+pub mod Forms
+pub mod Back
+pub mod BackSets

@@ -67,15 +67,26 @@ by-word P a b c d e Word.isFalse = c
 by-word P a b c d e Word.isNull = d
 by-word P a b c d e Word.isOn = e
 
--- three joins, from the right
-pub join : (w x y z : List Item) → ((w ++ x) ++ y) ++ z ≡ w ++ (x ++ (y ++ z))
+-- joins, from the right
+pub join : {A : Type 0} (w x y z : List A) → ((w ++ x) ++ y) ++ z ≡ w ++ (x ++ (y ++ z))
 join w x y z = append-assoc (w ++ x) y z ∙ append-assoc w x (y ++ z)
 
--- a node from its opening token a to its closing token b, read in two parts
+pub join-first : {A : Type 0} (w x y z : List A) → ((w ++ x) ++ y) ++ z ≡ w ++ ((x ++ y) ++ z)
+join-first {A} w x y z = ap (λ (l : List A). l ++ z) (append-assoc w x y) ∙ append-assoc w (x ++ y) z
+
+pub end-join : (l : ℕ) (x y z : List Token) → endAfter l ((x ++ y) ++ z) ≡ endAfter (endAfter l x) (y ++ z)
+end-join l x y z = ap (endAfter l) (append-assoc x y z) ∙ endAfter-append l x (y ++ z)
+
+-- a node from its opening token a to its closing token b
+pub node-bracketed : (n : ℕ) (a b : Token) (us : List Token) (es : List Item)
+    → node n (a ∷ (us ++ (b ∷ []))) (tokenEvent a ∷ (es ++ (tokenEvent b ∷ []))) ≡ opens n (a .start) ∷ tokenEvent a ∷ (es ++ (tokenEvent b ∷ closes n (a .start) (endOf b) ∷ []))
+node-bracketed n a b us es =
+    rw (lastEnd-snoc (a ∷ us) b) (ap (λ (gs : List Item). opens n (a .start) ∷ tokenEvent a ∷ gs) (append-assoc es (tokenEvent b ∷ []) (closes n (a .start) (endOf b) ∷ [])))
+
+-- it is read in two parts
 pub bracketed : (c : Bool) (n : ℕ) (a b : Token) (us ts : List Token) (es : List Item) (K : List Sym)
     → emits (opens n (a .start) ∷ tokenEvent a ∷ []) (emits (es ++ (tokenEvent b ∷ closes n (a .start) (endOf b) ∷ [])) (run c K (endOf b) ts))
     ≡ emits (node n (a ∷ (us ++ (b ∷ []))) (tokenEvent a ∷ (es ++ (tokenEvent b ∷ [])))) (run c K (lastEnd (a ∷ (us ++ (b ∷ [])))) ts)
 bracketed c n a b us ts es K =
-    rw (lastEnd-snoc (a ∷ us) b)
-    (emits-emits (opens n (a .start) ∷ tokenEvent a ∷ []) (es ++ (tokenEvent b ∷ closes n (a .start) (endOf b) ∷ [])) (run c K (endOf b) ts)
-    ∙ ap (λ (gs : List Item). emits (opens n (a .start) ∷ tokenEvent a ∷ gs) (run c K (endOf b) ts)) (sym (append-assoc es (tokenEvent b ∷ []) (closes n (a .start) (endOf b) ∷ []))))
+    emits-emits (opens n (a .start) ∷ tokenEvent a ∷ []) (es ++ (tokenEvent b ∷ closes n (a .start) (endOf b) ∷ [])) (run c K (endOf b) ts)
+    ∙ ap₂ (λ (gs : List Item) (e : ℕ). emits gs (run c K e ts)) (sym (node-bracketed n a b us es)) (sym (lastEnd-snoc (a ∷ us) b))
