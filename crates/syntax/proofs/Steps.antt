@@ -74,8 +74,14 @@ join w x y z = append-assoc (w ++ x) y z ∙ append-assoc w x (y ++ z)
 pub join-first : {A : Type 0} (w x y z : List A) → ((w ++ x) ++ y) ++ z ≡ w ++ ((x ++ y) ++ z)
 join-first {A} w x y z = ap (λ (l : List A). l ++ z) (append-assoc w x y) ∙ append-assoc w (x ++ y) z
 
+pub join-last : {A : Type 0} (w x y z : List A) → (w ++ (x ++ y)) ++ z ≡ w ++ (x ++ (y ++ z))
+join-last {A} w x y z = append-assoc w (x ++ y) z ∙ ap (λ (l : List A). w ++ l) (append-assoc x y z)
+
 pub end-join : (l : ℕ) (x y z : List Token) → endAfter l ((x ++ y) ++ z) ≡ endAfter (endAfter l x) (y ++ z)
 end-join l x y z = ap (endAfter l) (append-assoc x y z) ∙ endAfter-append l x (y ++ z)
+
+pub end-last : (l : ℕ) (x y z : List Token) → endAfter l (x ++ (y ++ z)) ≡ endAfter (endAfter (endAfter l x) y) z
+end-last l x y z = endAfter-append l x (y ++ z) ∙ endAfter-append (endAfter l x) y z
 
 -- a node from its opening token a to its closing token b
 pub node-bracketed : (n : ℕ) (a b : Token) (us : List Token) (es : List Item)
