@@ -15,7 +15,7 @@ use Rattle.syntax.specs.Machine.{Sym, value, deeper, items, fields, name
 use Rattle.syntax.proofs.Steps.{endAfter, endAfter-append, endAfter-last, join-first, join-last, end-last, node-bracketed}
 use Rattle.syntax.proofs.Loosen.{loosen, loosen-tokens, loosen-events, loosen-depth}
 use Rattle.syntax.proofs.Forms.{Further, noMore, more, further, Form, aValue, aName, aColon, aClose, aSet, anOptSet, aFirst, aSelections, aPlain, anAlias, aFragment, anInline, anOptArguments, aFirstArgument, anArguments, anOptDirectives, aDirectives, aType, tailTokens, tailEvents, formTokens, formEvents, Forms, none, form, tokensOf, eventsOf}
-use Rattle.syntax.proofs.Back.{is-fragment, Taken, Back, takes, refuses, passes, also-none, Turns, turn, turned, test, on-kind, on-name, item-join, node-join, on-value, on-deeper, on-items, on-fields}
+use Rattle.syntax.proofs.Back.{is-kind, is-fragment, Taken, Back, takes, refuses, passes, also-none, Turns, turn, turned, test, on-kind, on-name, item-join, node-join, on-value, on-deeper, on-items, on-fields}
 
 -- ---- one more
 
@@ -329,3 +329,86 @@ on-named {c} {l} {t} r n P K b =
     (on-optDirectives r (optSelectionSet r ∷ close 16 s ∷ P) K m₂
     (on-optSet r (close 16 s ∷ P) K m₁
     (on-close 16 s P K (step c l (P ++ K) t) b)))))
+
+take-fragment : {c : Bool} {l r : ℕ} {P : List Sym} (d : Token) (w : FragmentWord) (n : Span)
+    → Taken c l (spread r d ∷ P) (of (fragmentKind w) n) (opens 22 (d .start) ∷ tokenEvent d ∷ node 23 (of (fragmentKind w) n ∷ []) (nameEvents (of (fragmentKind w) n))) (optDirectives r ∷ close 22 (d .start) ∷ P)
+take-fragment d w n (form (anOptDirectives ds h) (form aClose F)) =
+    let e : ℕ = endAfter (endOf (of (fragmentKind w) n)) (optDirectivesTokens ds) in
+    (form (aFragment w n ds h) F, refl,
+    ap (λ (es : List Item). opens 22 (d .start) ∷ tokenEvent d ∷ (node 23 (of (fragmentKind w) n ∷ []) (nameEvents (of (fragmentKind w) n)) ++ es))
+    (append-assoc (optDirectivesEvents ds) (closes 22 (d .start) e ∷ []) (eventsOf e F)))
+
+-- an inline fragment's directives, selection set and end
+fragment-join : {c : Bool} {P : List Sym} (k : OptCondition) (ds : OptDirectives) (s : SelectionSet) (q l : ℕ) (F : Forms c P)
+    → (conditionEvents k ++ (optDirectivesEvents ds ++ (setEvents s ++ (closes 24 q (endAfter l (conditionTokens k ++ (optDirectivesTokens ds ++ setTokens s))) ∷ []))))
+    ++ eventsOf (endAfter l (conditionTokens k ++ (optDirectivesTokens ds ++ setTokens s))) F
+    ≡ conditionEvents k ++ (optDirectivesEvents ds ++ (setEvents s ++ (closes 24 q (endAfter (endAfter (endAfter l (conditionTokens k)) (optDirectivesTokens ds)) (setTokens s))
+    ∷ eventsOf (endAfter (endAfter (endAfter l (conditionTokens k)) (optDirectivesTokens ds)) (setTokens s)) F)))
+fragment-join k ds s q l F =
+    let a = conditionTokens k in
+    let b = optDirectivesTokens ds in
+    let e : ℕ = endAfter l (a ++ (b ++ setTokens s)) in
+    ap (λ (es : List Item). es ++ eventsOf e F) (sym (join-last (conditionEvents k) (optDirectivesEvents ds) (setEvents s) (closes 24 q e ∷ [])))
+    ∙ tail-join 24 q l (conditionEvents k) (optDirectivesEvents ds) (setEvents s) a b (setTokens s) F
+
+take-condition : {c : Bool} {l r : ℕ} {P : List Sym} (d : Token) (o : Span)
+    → Taken c l (spread r d ∷ P) (of wordOn o) (opens 24 (d .start) ∷ tokenEvent d ∷ opens 25 (o .start) ∷ tokenEvent (of wordOn o) ∷ [])
+    (namedType ∷ close 25 (o .start) ∷ optDirectives r ∷ selectionSet r ∷ close 24 (d .start) ∷ P)
+take-condition {l = l} d o (form (aType n) (form aClose (form (anOptDirectives ds g) (form (aSet s h) (form aClose F))))) =
+    (form (anInline (condition o n) ds s g h) F,
+    ap (λ (us : List Token). of wordOn o ∷ nameToken n ∷ us) (append-assoc (optDirectivesTokens ds) (setTokens s) (tokensOf F)),
+    ap (λ (es : List Item). opens 24 (d .start) ∷ tokenEvent d ∷ es) (fragment-join (condition o n) ds s (d .start) l F))
+
+turn-inline : {c : Bool} {l r : ℕ} {P : List Sym} (d : Token) → Turns c l (spread r d ∷ P) (opens 24 (d .start) ∷ tokenEvent d ∷ []) (optDirectives r ∷ selectionSet r ∷ close 24 (d .start) ∷ P)
+turn-inline {l = l} d (form (anOptDirectives ds g) (form (aSet s h) (form aClose F))) =
+    (form (anInline noCondition ds s g h) F,
+    append-assoc (optDirectivesTokens ds) (setTokens s) (tokensOf F),
+    ap (λ (es : List Item). opens 24 (d .start) ∷ tokenEvent d ∷ es) (fragment-join noCondition ds s (d .start) l F))
+
+test-also : {c : Bool} {l : ℕ} {t : Token} {P K : List Sym} (m n : Move) (es : List Item) (b : Bool)
+    → (b ≡ true → Back c l t P K (also es m)) → Back c l t P K (also es n) → Back c l t P K (also es (pick b m n))
+test-also m n es true f g = f refl
+test-also m n es false f g = g
+
+-- what follows a `...`
+on-spread : {c : Bool} {l : ℕ} {t : Token} (r : ℕ) (d : Token) (P K : List Sym) → Back c l t (spread r d ∷ P) K (atSpread r d (P ++ K) t)
+unfolding atSpread
+on-spread {t = t} r d P K =
+    let s : ℕ = d .start in
+    test (isFragmentName (t .kind))
+    (λ e. takes (opens 22 s ∷ tokenEvent d ∷ node 23 (t ∷ []) (nameEvents t)) (optDirectives r ∷ close 22 s ∷ P) refl (let w = is-fragment t e in rw (w .2) (take-fragment d (w .0) (w .1))))
+    (test-also
+    (go (opens 25 (t .start) ∷ tokenEvent t ∷ []) (namedType ∷ close 25 (t .start) ∷ optDirectives r ∷ selectionSet r ∷ close 24 s ∷ (P ++ K)))
+    (orDirectives r (selectionSet r ∷ close 24 s ∷ (P ++ K)) t (orSelectionSet r (close 24 s ∷ (P ++ K)) t (stop 9)))
+    (opens 24 s ∷ tokenEvent d ∷ []) (eqb (t .kind) wordOn)
+    (λ e. takes (opens 24 s ∷ tokenEvent d ∷ opens 25 (t .start) ∷ tokenEvent t ∷ []) (namedType ∷ close 25 (t .start) ∷ optDirectives r ∷ selectionSet r ∷ close 24 s ∷ P) refl
+    (let w = is-kind wordOn t e in rw (w .1) (take-condition d (w .0))))
+    (turn (opens 24 s ∷ tokenEvent d ∷ []) (turn-inline d)
+    (on-optDirectives r (selectionSet r ∷ close 24 s ∷ P) K (orSelectionSet r (close 24 s ∷ (P ++ K)) t (stop 9)) (on-set r (close 24 s ∷ P) K))))
+
+-- ---- the whole stack
+
+-- one step back, whatever is due
+pub back : (c : Bool) (l : ℕ) (t : Token) (P K : List Sym) → Back c l t P K (step c l (P ++ K) t)
+unfolding step atName atColon atNamedType
+back c l t [] K = passes [] (sym (also-none (step c l K t))) none refl refl
+back c l t (value r ∷ P) K = on-value c r P K
+back c l t (deeper r ∷ P) K = on-deeper c r P K
+back c l t (items r s ∷ P) K = on-items c r s P K
+back c l t (fields r s ∷ P) K = on-fields c r s P K
+back c l t (name ∷ P) K = on-name nameEvents (λ u. P) (λ n F. (form (aName n) F, refl, refl)) (refuses 9 refl)
+back c l t (colonDue ∷ P) K = on-kind colon (λ u. tokenEvent u ∷ []) (λ u. P) (λ k F. (form (aColon k) F, refl, refl)) (refuses 9 refl)
+back c l t (close n s ∷ P) K = on-close n s P K (step c l (P ++ K) t) (back c l t P K)
+back c l t (selectionSet r ∷ P) K = on-set r P K
+back c l t (optSelectionSet r ∷ P) K = on-optSet r P K (step c l (P ++ K) t) (back c l t P K)
+back c l t (firstSelection r s ∷ P) K = on-firstSelection r s P K
+back c l t (selections r s ∷ P) K = on-selections r s P K
+back c l t (named r n ∷ P) K = on-named r n P K (back c l t P K)
+back c l t (spread r d ∷ P) K = on-spread r d P K
+back c l t (optArguments r ∷ P) K = on-optArguments r P K (step c l (P ++ K) t) (back c l t P K)
+back c l t (firstArgument r s ∷ P) K = on-firstArgument r s P K
+back c l t (arguments r s ∷ P) K = on-arguments r s P K
+back c l t (optDirectives r ∷ P) K = on-optDirectives r P K (step c l (P ++ K) t) (back c l t P K)
+back c l t (directives r s ∷ P) K = on-directives r s P K (step c l (P ++ K) t) (back c l t P K)
+back c l t (namedType ∷ P) K =
+    on-name (λ u. opens 12 (u .start) ∷ (nameEvents u ++ (closes 12 (u .start) (endOf u) ∷ []))) (λ u. P) (λ n F. (form (aType n) F, refl, refl)) (refuses 9 refl)

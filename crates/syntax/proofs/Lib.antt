@@ -6,3 +6,4 @@ pub mod Loosen
 pub mod Forms
 pub mod Back
 pub mod BackSets
+pub mod Sound

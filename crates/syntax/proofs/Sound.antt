@@ -1,0 +1,50 @@
+-- What the machine accepts is trees of what is due, with the trees' events. Assumes nothing.
+use Prim.Native.Nat.{ℕ}
+use native.Mathlib.Omega.{arith}
+use mathlib.Core.Path.{_≡_, refl, sym, ap, ap₂, _∙_}
+use mathlib.Core.Bool.{Bool}
+use mathlib.Core.List.{List, [], _∷_, _++_, append-assoc}
+use Rattle.base.specs.Item.{Item}
+use Rattle.syntax.specs.Token.{Token, endOf}
+use Rattle.syntax.specs.Machine.{Sym, Move, go, stop, halt, also, step, Read, refused, accepted, emits, moved, run}
+use Rattle.syntax.proofs.Steps.{emits-accepted, moved-also, endAfter}
+use Rattle.syntax.proofs.Forms.{Forms, none, form, tokensOf, eventsOf}
+use Rattle.syntax.proofs.Back.{Back, takes, refuses, passes}
+use Rattle.syntax.proofs.BackSets.{back}
+
+-- the tokens ts begin with trees of P, which give the first of the events es; then K reads the rest and gives the others
+pub record Reads (c : Bool) (P K : List Sym) (l : ℕ) (ts : List Token) (es : List Item) : Type 0 where
+  pub forms : Forms c P
+  pub rest : List Token
+  pub others : List Item
+  pub tokens : ts ≡ tokensOf forms ++ rest
+  pub events : es ≡ eventsOf l forms ++ others
+  pub goes : run c K (endAfter l (tokensOf forms)) rest ≡ accepted others
+
+sound-step : (c : Bool) (P K : List Sym) (l : ℕ) (t : Token) (ts : List Token) (es : List Item) (m : Move) → Back c l t P K m
+    → ((Q : List Sym) (fs : List Item) → run c (Q ++ K) (endOf t) ts ≡ accepted fs → Reads c Q K (endOf t) ts fs)
+    → moved m (t .start) (λ K′. run c K′ (endOf t) ts) ≡ accepted es → Reads c P K l (t ∷ ts) es
+unfolding run
+sound-step c P K l t ts es m (takes fs Q e b) ih a =
+    let v = emits-accepted (run c (Q ++ K) (endOf t) ts) fs es (rw e at a) in
+    let s = ih Q (v .0) (v .1) in
+    let w = b (s .forms) in
+    record {
+      forms = w .0;
+      rest = s .rest;
+      others = s .others;
+      tokens = ap (λ (us : List Token). t ∷ us) (s .tokens) ∙ ap (λ (us : List Token). us ++ s .rest) (sym (w .1));
+      events = v .2 ∙ ap (λ (gs : List Item). fs ++ gs) (s .events) ∙ sym (append-assoc fs (eventsOf (endOf t) (s .forms)) (s .others)) ∙ ap (λ (gs : List Item). gs ++ s .others) (sym (w .2));
+      goes = rw (w .1) (s .goes);
+    }
+sound-step c P K l t ts es m (refuses n e) ih a = absurd (let z : _≡_ {A = ℕ} 0 1 = cc in omega arith)
+sound-step c P K l t ts es m (passes fs e G p q) ih a =
+    let v = emits-accepted (run c K l (t ∷ ts)) fs es (sym (moved-also fs (step c l K t) (t .start) (λ K′. run c K′ (endOf t) ts)) ∙ rw e at a) in
+    record { forms = G; rest = t ∷ ts; others = v .0; tokens = ap (λ (us : List Token). us ++ (t ∷ ts)) (sym p); events = v .2 ∙ ap (λ (gs : List Item). gs ++ v .0) (sym q); goes = rw p (v .1) }
+
+-- what is accepted, with P due and K below it, begins with trees of P within the depths that are left
+pub sound : (c : Bool) (ts : List Token) (P K : List Sym) (l : ℕ) (es : List Item) → run c (P ++ K) l ts ≡ accepted es → Reads c P K l ts es
+unfolding run
+sound c [] P K l es e = absurd (let z : _≡_ {A = ℕ} 0 1 = cc in omega arith)
+sound c (t ∷ ts) P K l es e =
+    sound-step c P K l t ts es (step c l (P ++ K) t) (back c l t P K) (λ Q fs h. sound c ts Q K (endOf t) fs h) e
