@@ -7,3 +7,4 @@ pub mod Forms
 pub mod Back
 pub mod BackSets
 pub mod Sound
+pub mod ValueSound

@@ -2,10 +2,13 @@
 use Prim.Native.Nat.{ℕ}
 use native.Mathlib.Omega.{arith}
 use mathlib.Core.Path.{_≡_, refl, sym, ap, ap₂, _∙_}
-use mathlib.Core.Bool.{Bool}
+use mathlib.Core.Bool.{Bool, true, false}
 use mathlib.Core.List.{List, [], _∷_, _++_, append-assoc}
+use lib.Dec.{eqb}
+use borrow.Author.Tests.{eqb-true, eqb-false}
+use Rattle.base.specs.Text.{pick}
 use Rattle.base.specs.Item.{Item}
-use Rattle.syntax.specs.Token.{Token, endOf}
+use Rattle.syntax.specs.Token.{eof, Token, endOf}
 use Rattle.syntax.specs.Machine.{Sym, Move, go, stop, halt, also, step, Read, refused, accepted, emits, moved, run}
 use Rattle.syntax.proofs.Steps.{emits-accepted, moved-also, endAfter}
 use Rattle.syntax.proofs.Forms.{Forms, none, form, tokensOf, eventsOf}
@@ -48,3 +51,33 @@ unfolding run
 sound c [] P K l es e = absurd (let z : _≡_ {A = ℕ} 0 1 = cc in omega arith)
 sound c (t ∷ ts) P K l es e =
     sound-step c P K l t ts es (step c l (P ++ K) t) (back c l t P K) (λ Q fs h. sound c ts Q K (endOf t) fs h) e
+
+-- ---- Eof
+
+-- with nothing due, Eof stands there
+pub eof-sound : (c : Bool) (l : ℕ) (ts : List Token) (es : List Item) → run c [] l ts ≡ accepted es → (e : Token) × (us : List Token) × (ts ≡ e ∷ us) × (e .kind ≡ eof) × (es ≡ [])
+unfolding run step
+eof-sound c l [] es a = absurd (let z : _≡_ {A = ℕ} 0 1 = cc in omega arith)
+eof-sound c l (t ∷ ts) es a = by-eof (eqb (t .kind) eof) refl a
+  where
+    by-eof : (b : Bool) → eqb (t .kind) eof ≡ b → moved (pick b (halt []) (stop 9)) (t .start) (λ K. run c K (endOf t) ts) ≡ accepted es
+        → (e : Token) × (us : List Token) × (t ∷ ts ≡ e ∷ us) × (e .kind ≡ eof) × (es ≡ [])
+    by-eof true h a = (t, ts, refl, eqb-true (t .kind) eof h, cc)
+    by-eof false h a = absurd (let z : _≡_ {A = ℕ} 0 1 = cc in omega arith)
+
+-- ---- where Eof is the last token, and the only one
+
+-- no Eof in it
+abbrev pub NoEof : List Token → Type 0
+NoEof [] = Unit {0}
+NoEof (t ∷ ts) = (eqb (t .kind) eof ≡ false) × NoEof ts
+
+pub split-eof : (us vs ws : List Token) (e f : Token) → NoEof us → f .kind ≡ eof → us ++ (e ∷ []) ≡ vs ++ (f ∷ ws) → us ≡ vs
+split-eof [] [] ws e f n k q = refl
+split-eof [] (v ∷ []) ws e f n k q = absurd (let z : _≡_ {A = ℕ} 0 1 = cc in omega arith)
+split-eof [] (v ∷ w ∷ vs) ws e f n k q = absurd (let z : _≡_ {A = ℕ} 0 1 = cc in omega arith)
+split-eof (u ∷ us) [] ws e f n k q = let h : u ≡ f = cc in absurd (eqb-false (u .kind) eof (n .0) (ap (λ (t : Token). t .kind) h ∙ k))
+split-eof (u ∷ us) (v ∷ vs) ws e f n k q =
+    let a : u ≡ v = cc in
+    let b : us ++ (e ∷ []) ≡ vs ++ (f ∷ ws) = cc in
+    ap₂ (λ (t : Token) (ts : List Token). t ∷ ts) a (split-eof us vs ws e f (n .1) k b)

@@ -54,6 +54,16 @@ pub endAfter-last : (l : ℕ) (t : Token) (ts : List Token) → endAfter l (t �
 endAfter-last l t [] = refl
 endAfter-last l t (u ∷ ts) = endAfter-last (endOf t) u ts
 
+-- some tokens
+abbrev pub Some : List Token → Type 0
+Some ts = (t : Token) × (us : List Token) × (ts ≡ t ∷ us)
+
+pub some-last : (t : Token) (ts : List Token) → Some ts → lastEnd (t ∷ ts) ≡ lastEnd ts
+some-last t ts s = rw (s .2)
+
+pub some-end : (l : ℕ) (ts : List Token) → Some ts → endAfter l ts ≡ lastEnd ts
+some-end l ts s = rw (s .2) (endAfter-last l (s .0) (s .1))
+
 pub lastEnd-snoc : (ts : List Token) (t : Token) → lastEnd (ts ++ (t ∷ [])) ≡ endOf t
 lastEnd-snoc [] t = refl
 lastEnd-snoc (u ∷ []) t = refl

@@ -5,10 +5,10 @@ use mathlib.Core.Path.{_≡_, refl, sym, ap, ap₂, _∙_}
 use mathlib.Core.Bool.{Bool, true, false}
 use mathlib.Core.List.{List, [], _∷_, _++_, append-assoc, append-nil}
 use Rattle.base.specs.Item.{Item}
-use Rattle.syntax.specs.Token.{eof, dollar, colon, bracketL, bracketR, braceL, braceR, isName, isEnum, Token, endOf, tokenEvent, opens, closes, nameEvents}
-use Rattle.syntax.specs.Grammar.{Span, of, Word, kindOf, Name, nameToken, EnumWord, lastEnd, node, Value, variable, intValue, floatValue, stringValue, trueValue, falseValue, nullValue, enumValue, listValue, objectValue, Values, noValue, aValue, Fields, noField, aField, valueTokens, valuesTokens, fieldsTokens, valueEvents, valuesEvents, fieldsEvents, valueDepth, valuesDepth, fieldsDepth}
+use Rattle.syntax.specs.Token.{eof, dollar, colon, bracketL, bracketR, braceL, braceR, string, int, float, wordTrue, wordFalse, wordNull, isName, isEnum, Token, endOf, tokenEvent, opens, closes, nameEvents}
+use Rattle.syntax.specs.Grammar.{Span, of, Word, kindOf, Name, nameToken, EnumWord, enumKind, lastEnd, node, Value, variable, intValue, floatValue, stringValue, trueValue, falseValue, nullValue, enumValue, listValue, objectValue, Values, noValue, aValue, Fields, noField, aField, valueTokens, valuesTokens, fieldsTokens, valueEvents, valuesEvents, fieldsEvents, valueDepth, valuesDepth, fieldsDepth}
 use Rattle.syntax.specs.Machine.{Sym, value, deeper, items, fields, name, colonDue, close, atValue, atItems, atFields, atName, atColon, step, Read, accepted, emits, run, readValue, readConstant}
-use Rattle.syntax.proofs.Steps.{emits-emits, run-close, by-word, join, bracketed}
+use Rattle.syntax.proofs.Steps.{emits-emits, run-close, Some, some-last, by-word, join, bracketed}
 
 -- a name is read where one is due
 pub name-read : (c : Bool) (n : Name) (K : List Sym) (l : ℕ) (ts : List Token)
@@ -51,17 +51,17 @@ as-deeper c r K l [] = refl
 as-deeper c r K l (t ∷ ts) = refl
 
 -- a value has some token
-pub value-last : {c : Bool} (v : Value c) (t : Token) → lastEnd (t ∷ valueTokens v) ≡ lastEnd (valueTokens v)
-value-last (variable d n) t = refl
-value-last (intValue a) t = refl
-value-last (floatValue a) t = refl
-value-last (stringValue a) t = refl
-value-last (trueValue a) t = refl
-value-last (falseValue a) t = refl
-value-last (nullValue a) t = refl
-value-last (enumValue w a) t = refl
-value-last (listValue a vs b) t = refl
-value-last (objectValue a fs b) t = refl
+pub value-some : {c : Bool} (v : Value c) → Some (valueTokens v)
+value-some (variable d n) = (of dollar d, nameToken n ∷ [], refl)
+value-some (intValue a) = (of int a, [], refl)
+value-some (floatValue a) = (of float a, [], refl)
+value-some (stringValue a) = (of string a, [], refl)
+value-some (trueValue a) = (of wordTrue a, [], refl)
+value-some (falseValue a) = (of wordFalse a, [], refl)
+value-some (nullValue a) = (of wordNull a, [], refl)
+value-some (enumValue w a) = (of (enumKind w) a, [], refl)
+value-some (listValue a vs b) = (of bracketL a, valuesTokens vs ++ (of bracketR b ∷ []), refl)
+value-some (objectValue a fs b) = (of braceL a, fieldsTokens fs ++ (of braceR b ∷ []), refl)
 
 mutual
   unfolding run step atValue atItems atFields atColon isEnum
@@ -103,7 +103,7 @@ mutual
   fields-read {c} noField r s K l b ts h = refl
   fields-read {c} (aField n k v fs) zero s K l b ts h = absurd (omega arith)
   fields-read {c} (aField n k v fs) (suc r) s K l b ts h = 
-      rw (append-assoc (valueTokens v) (fieldsTokens fs) (of braceR b ∷ ts), value-last v (of colon k))
+      rw (append-assoc (valueTokens v) (fieldsTokens fs) (of braceR b ∷ ts), some-last (of colon k) (valueTokens v) (value-some v))
       (field-name _ n (suc r) s K l (of colon k ∷ (valueTokens v ++ (fieldsTokens fs ++ (of braceR b ∷ ts))))
       ∙ ap (λ (a : Read). emits (opens 10 (n .span .start) ∷ nameEvents (nameToken n)) (emits (tokenEvent (of colon k) ∷ []) a))
       (as-deeper _ r (close 10 (n .span .start) ∷ fields (suc r) s ∷ K) (endOf (of colon k)) (valueTokens v ++ (fieldsTokens fs ++ (of braceR b ∷ ts)))
