@@ -8,3 +8,6 @@ pub mod Back
 pub mod BackSets
 pub mod Sound
 pub mod ValueSound
+pub mod SetSound
+pub mod TypeComplete
+pub mod TypeSound

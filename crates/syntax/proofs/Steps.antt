@@ -1,8 +1,9 @@
 -- The run in small steps: events before events, nodes that end, and where the last token ends. Assumes nothing.
 use Prim.Native.Nat.{ℕ}
 use mathlib.Core.Path.{_≡_, refl, sym, ap, ap₂, _∙_}
-use mathlib.Core.Bool.{Bool}
+use mathlib.Core.Bool.{Bool, false}
 use mathlib.Core.List.{List, [], _∷_, _++_, append-assoc}
+use lib.Dec.{eqb}
 use Rattle.base.specs.Item.{Item}
 use Rattle.syntax.specs.Token.{plain, wordTrue, wordFalse, wordNull, wordOn, Token, endOf, tokenEvent, opens, closes}
 use Rattle.syntax.specs.Grammar.{Word, kindOf, lastEnd, node}
@@ -53,6 +54,11 @@ endAfter-append l (t ∷ ts) us = endAfter-append (endOf t) ts us
 pub endAfter-last : (l : ℕ) (t : Token) (ts : List Token) → endAfter l (t ∷ ts) ≡ lastEnd (t ∷ ts)
 endAfter-last l t [] = refl
 endAfter-last l t (u ∷ ts) = endAfter-last (endOf t) u ts
+
+-- the first token, if there is one, is not of kind k
+abbrev pub Not : ℕ → List Token → Type 0
+Not k [] = Unit {0}
+Not k (t ∷ ts) = eqb (t .kind) k ≡ false
 
 -- some tokens
 abbrev pub Some : List Token → Type 0
