@@ -9,5 +9,6 @@ pub mod BackSets
 pub mod Sound
 pub mod ValueSound
 pub mod SetSound
+pub mod SetComplete
 pub mod TypeComplete
 pub mod TypeSound

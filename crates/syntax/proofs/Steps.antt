@@ -19,6 +19,17 @@ pub emits-none : (a : Read) → emits [] a ≡ a
 emits-none (refused n p) = refl
 emits-none (accepted fs) = refl
 
+-- the reading a gives the events es, and then it is the reading b
+pub record Gives (a : Read) (es : List Item) (b : Read) : Type 0 where
+  pub is : a ≡ emits es b
+
+-- one after another
+pub andThen : {a b d : Read} {es fs : List Item} → Gives a es b → Gives b fs d → Gives a (es ++ fs) d
+andThen {d = d} {es = es} {fs = fs} p q = record { is = p .is ∙ ap (emits es) (q .is) ∙ emits-emits es fs d }
+
+pub same-as : {a b d : Read} {es : List Item} → a ≡ b → Gives b es d → Gives a es d
+same-as p q = record { is = p ∙ q .is }
+
 -- what is refused behind events is refused
 pub emits-refused : (a : Read) (es : List Item) (n p : ℕ) → emits es a ≡ refused n p → a ≡ refused n p
 emits-refused (refused m q) es n p e = e
