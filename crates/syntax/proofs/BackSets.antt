@@ -111,7 +111,7 @@ on-arguments {t = t} r s P K =
 -- ---- directives
 
 -- a directive's events, in the order of reading
-directive-events : (a : Span) (n : Name) (xs : OptArguments)
+pub directive-events : (a : Span) (n : Name) (xs : OptArguments)
     → directiveEvents (record { atAt = a; name = n; args = xs })
     ≡ opens 21 (a .start) ∷ tokenEvent (of at a) ∷ (nameEvents (nameToken n) ++ (optArgumentsEvents xs ++ (closes 21 (a .start) (endAfter (endOf (nameToken n)) (optArgumentsTokens xs)) ∷ [])))
 directive-events a n xs = rw (← endAfter-last 0 (nameToken n) (optArgumentsTokens xs))

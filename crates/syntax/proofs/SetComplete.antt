@@ -12,8 +12,10 @@ use Rattle.syntax.specs.Grammar.{Span, of, Name, nameToken, FragmentWord
 use Rattle.syntax.specs.Selections as trees
 use Rattle.syntax.specs.Selections.{Argument, Arguments, oneArgument, moreArguments, OptArguments, noArguments, Directive, Directives, oneDirective, moreDirectives, OptDirectives, noDirectives, OptCondition, noCondition, condition, noAlias, alias, SelectionSet, Selections, oneSelection, moreSelections, Selection, field, fragmentSpread, inlineFragment, OptSelectionSet, noSelectionSet, someSelectionSet, argumentTokens, argumentsTokens, optArgumentsTokens, directiveTokens, directivesTokens, optDirectivesTokens, conditionTokens, setTokens, selectionTokens, selectionsTokens, optSetTokens, argumentEvents, argumentsEvents, optArgumentsEvents, directiveEvents, directivesEvents, optDirectivesEvents, conditionEvents, setEvents, selectionEvents, selectionsEvents, optSetEvents, argumentsDepth, optArgumentsDepth, directivesDepth, optDirectivesDepth, setDepth, selectionDepth, selectionsDepth, optSetDepth}
 use Rattle.syntax.specs.Machine.{Sym, value, name, colonDue, close, selectionSet, optSelectionSet, firstSelection, selections, named, spread, optArguments, firstArgument, arguments, optDirectives, directives, namedType, also, atName, atColon, atNamedType, orSelectionSet, orSelection, atFirstSelection, atSelections, afterName, orArguments, orArgument, atArguments, orDirective, orDirectives, atSpread, step, Read, accepted, emits, moved, run, readSelectionSet}
-use Rattle.syntax.proofs.Steps.{emits-emits, emits-none, Gives, andThen, same-as, moved-also, run-close, endAfter, endAfter-append, endAfter-last, Not, some-last, some-end, by-word, join-first, join-last, end-last, node-bracketed, bracketed}
+use Rattle.syntax.proofs.Steps.{emits-emits, emits-none, Gives, andThen, same-as, moved-also, run-close, endAfter, endAfter-append, endAfter-last, Not, Some, some-last, some-end, by-word, join-first, join-last, end-last, node-bracketed, bracketed}
 use Rattle.syntax.proofs.ValueComplete.{name-read, value-some, value-read, eof-read}
+use Rattle.syntax.proofs.Forms.{tailTokens, tailEvents}
+use Rattle.syntax.proofs.BackSets.{directive-events}
 use Rattle.syntax.proofs.SetSound.{set-some}
 
 -- ---- what was proved of names, values and closings
@@ -113,3 +115,167 @@ optArguments-read (trees.arguments a xs b) r K l ts h n =
     (bracket-gives 18 (of parenL a) (of parenR b) (argumentsTokens xs) ts (argumentsEvents xs) K
     (arguments-open a r K l (argumentsTokens xs ++ (of parenR b ∷ ts)))
     (arguments-read xs r (a .start) K (endOf (of parenL a)) b ts h))
+
+-- ---- directives
+
+-- an `@`
+directive-open : (a : Span) (r s : ℕ) (K : List Sym) (l : ℕ) (ts : List Token) → Gives (run false (directives r s ∷ K) l (of at a ∷ ts))
+    (opens 21 (a .start) ∷ tokenEvent (of at a) ∷ []) (run false (name ∷ optArguments r ∷ close 21 (a .start) ∷ directives r s ∷ K) (endOf (of at a)) ts)
+unfolding run step orDirective
+directive-open a r s K l ts = record { is = refl }
+
+-- a directive
+directive-read : (d : Directive) (r s : ℕ) (K : List Sym) (l : ℕ) (ts : List Token) → optArgumentsDepth (d .args) ≤ r → Not parenL ts
+    → Gives (run false (directives r s ∷ K) l (directiveTokens d ++ ts)) (directiveEvents d) (run false (directives r s ∷ K) (endAfter l (directiveTokens d)) ts)
+directive-read d r s K l ts h n =
+    let a = d .atAt in
+    let m = d .name in
+    let xs = d .args in
+    rw (directive-events a m xs)
+    (andThen (directive-open a r s K l (nameToken m ∷ (optArgumentsTokens xs ++ ts)))
+    (andThen (name-gives m (optArguments r ∷ close 21 (a .start) ∷ directives r s ∷ K) (endOf (of at a)) (optArgumentsTokens xs ++ ts))
+    (andThen (optArguments-read xs r (close 21 (a .start) ∷ directives r s ∷ K) (endOf (nameToken m)) ts h n)
+    (close-gives 21 (a .start) (endAfter (endOf (nameToken m)) (optArgumentsTokens xs)) (directives r s ∷ K) ts))))
+
+-- no further directives
+directives-end : (r s : ℕ) (K : List Sym) (l : ℕ) (ts : List Token) → Not at ts → Gives (run false (directives r s ∷ K) l ts) (closes 20 s l ∷ []) (run false K l ts)
+unfolding run step orDirective
+directives-end r s K l [] n = record { is = refl }
+directives-end r s K l (t ∷ ts) n = record { is = rw n (moved-also (closes 20 s l ∷ []) (step false l K t) (t .start) (λ K′. run false K′ (endOf t) ts)) }
+
+-- directives begin with an `@`
+directives-first : (ds : Directives) (k : ℕ) (ts : List Token) → eqb at k ≡ false → Not k (directivesTokens ds ++ ts)
+directives-first (oneDirective d) k ts e = e
+directives-first (moreDirectives d ds) k ts e = e
+
+-- some directives
+directives-read : (ds : Directives) (r s : ℕ) (K : List Sym) (l : ℕ) (ts : List Token) → directivesDepth ds ≤ r → Not parenL ts → Not at ts
+    → Gives (run false (directives r s ∷ K) l (directivesTokens ds ++ ts)) (directivesEvents ds ++ (closes 20 s (endAfter l (directivesTokens ds)) ∷ [])) (run false K (endAfter l (directivesTokens ds)) ts)
+directives-read (oneDirective d) r s K l ts h n m = andThen (directive-read d r s K l ts h n) (directives-end r s K (endAfter l (directiveTokens d)) ts m)
+directives-read (moreDirectives d ds) r s K l ts h n m =
+    let e : ℕ = endAfter (endAfter l (directiveTokens d)) (directivesTokens ds) in
+    rw (append-assoc (directiveTokens d) (directivesTokens ds) ts, endAfter-append l (directiveTokens d) (directivesTokens ds), append-assoc (directiveEvents d) (directivesEvents ds) (closes 20 s e ∷ []))
+    (andThen (directive-read d r s K l (directivesTokens ds ++ ts) (omega arith) (directives-first ds parenL ts refl))
+    (directives-read ds r s K (endAfter l (directiveTokens d)) ts (omega arith) n m))
+
+-- the first `@`
+first-at : (a : Span) (r : ℕ) (K : List Sym) (l : ℕ) (ts : List Token)
+    → Gives (run false (optDirectives r ∷ K) l (of at a ∷ ts)) (opens 20 (a .start) ∷ []) (run false (directives r (a .start) ∷ K) l (of at a ∷ ts))
+unfolding run step orDirective
+first-at a r K l ts =
+    record { is = sym (emits-emits (opens 20 (a .start) ∷ []) (opens 21 (a .start) ∷ tokenEvent (of at a) ∷ [])
+    (run false (name ∷ optArguments r ∷ close 21 (a .start) ∷ directives r (a .start) ∷ K) (endOf (of at a)) ts)) }
+
+directives-open : (ds : Directives) (r : ℕ) (K : List Sym) (l : ℕ) (ts : List Token)
+    → Gives (run false (optDirectives r ∷ K) l (directivesTokens ds ++ ts)) (opens 20 (startOf (directivesTokens ds)) ∷ []) (run false (directives r (startOf (directivesTokens ds)) ∷ K) l (directivesTokens ds ++ ts))
+directives-open (oneDirective d) r K l ts = first-at (d .atAt) r K l (nameToken (d .name) ∷ (optArgumentsTokens (d .args) ++ ts))
+directives-open (moreDirectives d ds) r K l ts = first-at (d .atAt) r K l (nameToken (d .name) ∷ ((optArgumentsTokens (d .args) ++ directivesTokens ds) ++ ts))
+
+-- no directives
+no-directives : (r : ℕ) (K : List Sym) (l : ℕ) (ts : List Token) → Not at ts → Gives (run false (optDirectives r ∷ K) l ts) [] (run false K l ts)
+unfolding run step orDirective
+no-directives r K l [] n = record { is = refl }
+no-directives r K l (t ∷ ts) n = record { is = rw n (sym (emits-none (moved (step false l K t) (t .start) (λ K′. run false K′ (endOf t) ts)))) }
+
+directives-some : (ds : Directives) → Some (directivesTokens ds)
+directives-some (oneDirective d) = (of at (d .atAt), nameToken (d .name) ∷ optArgumentsTokens (d .args), refl)
+directives-some (moreDirectives d ds) = (of at (d .atAt), nameToken (d .name) ∷ (optArgumentsTokens (d .args) ++ directivesTokens ds), refl)
+
+-- directives, or none
+optDirectives-read : (ds : OptDirectives) (r : ℕ) (K : List Sym) (l : ℕ) (ts : List Token) → optDirectivesDepth ds ≤ r → Not parenL ts → Not at ts
+    → Gives (run false (optDirectives r ∷ K) l (optDirectivesTokens ds ++ ts)) (optDirectivesEvents ds) (run false K (endAfter l (optDirectivesTokens ds)) ts)
+optDirectives-read noDirectives r K l ts h n m = no-directives r K l ts m
+optDirectives-read (trees.directives ds) r K l ts h n m =
+    rw (← some-end l (directivesTokens ds) (directives-some ds))
+    (andThen (directives-open ds r K l ts) (directives-read ds r (startOf (directivesTokens ds)) K l ts h n m))
+
+-- ---- what follows
+
+-- a selection is followed by none of `:`, `(`, `@` and `{`: where a part of it may be missing, none of these begins it
+abbrev pub Follow : List Token → Type 0
+Follow ts = Not colon ts × Not parenL ts × Not at ts × Not braceL ts
+
+-- directives, or none, and then what is no k
+directives-not : (k : ℕ) (ds : OptDirectives) (ts : List Token) → eqb at k ≡ false → Not k ts → Not k (optDirectivesTokens ds ++ ts)
+directives-not k noDirectives ts e n = n
+directives-not k (trees.directives ds) ts e n = directives-first ds k ts e
+
+set-not : (k : ℕ) (s : OptSelectionSet) (ts : List Token) → eqb braceL k ≡ false → Not k ts → Not k (optSetTokens s ++ ts)
+set-not k noSelectionSet ts e n = n
+set-not k (someSelectionSet (trees.selectionSet a ss b)) ts e n = e
+
+arguments-not : (k : ℕ) (xs : OptArguments) (ts : List Token) → eqb parenL k ≡ false → Not k ts → Not k (optArgumentsTokens xs ++ ts)
+arguments-not k noArguments ts e n = n
+arguments-not k (trees.arguments a xs b) ts e n = e
+
+-- what may follow a field's name begins with no `:`
+tail-not-colon : (xs : OptArguments) (ds : OptDirectives) (s : OptSelectionSet) (ts : List Token) → Not colon ts → Not colon (tailTokens xs ds s ++ ts)
+tail-not-colon xs ds s ts n =
+    rw (join-last (optArgumentsTokens xs) (optDirectivesTokens ds) (optSetTokens s) ts)
+    (arguments-not colon xs (optDirectivesTokens ds ++ (optSetTokens s ++ ts)) refl (directives-not colon ds (optSetTokens s ++ ts) refl (set-not colon s ts refl n)))
+
+follow-name : (n : Name) (ts : List Token) → Follow (nameToken n ∷ ts)
+follow-name n ts =
+    by-word (λ (k : ℕ). (eqb k colon ≡ false) × (eqb k parenL ≡ false) × (eqb k at ≡ false) × (eqb k braceL ≡ false))
+    (refl, refl, refl, refl) (refl, refl, refl, refl) (refl, refl, refl, refl) (refl, refl, refl, refl) (refl, refl, refl, refl) (n .word)
+
+follow-selection : (x : Selection) (ts : List Token) → Follow (selectionTokens x ++ ts)
+follow-selection (field noAlias n xs ds s) ts = follow-name n (tailTokens xs ds s ++ ts)
+follow-selection (field (alias m k) n xs ds s) ts = follow-name m (of colon k ∷ nameToken n ∷ (tailTokens xs ds s ++ ts))
+follow-selection (fragmentSpread d w n ds) ts = (refl, refl, refl, refl)
+follow-selection (inlineFragment d k ds s) ts = (refl, refl, refl, refl)
+
+follow-selections : (ss : Selections) (ts : List Token) → Follow (selectionsTokens ss ++ ts)
+follow-selections (oneSelection x) ts = follow-selection x ts
+follow-selections (moreSelections x ss) ts = rw (append-assoc (selectionTokens x) (selectionsTokens ss) ts) (follow-selection x (selectionsTokens ss ++ ts))
+
+-- ---- selections
+
+-- the first selection is read as a further one is
+first-name : (n : Name) (r s : ℕ) (K : List Sym) (l : ℕ) (ts : List Token) → run false (firstSelection (suc r) s ∷ K) l (nameToken n ∷ ts) ≡ run false (selections r s ∷ K) l (nameToken n ∷ ts)
+unfolding run step atSelections
+first-name n r s K l ts =
+    by-word (λ (k : ℕ). run false (firstSelection (suc r) s ∷ K) l (of k (n .span) ∷ ts) ≡ run false (selections r s ∷ K) l (of k (n .span) ∷ ts)) refl refl refl refl refl (n .word)
+
+first-dots : (d : Span) (r s : ℕ) (K : List Sym) (l : ℕ) (ts : List Token) → run false (firstSelection (suc r) s ∷ K) l (of dots d ∷ ts) ≡ run false (selections r s ∷ K) l (of dots d ∷ ts)
+unfolding run step atSelections
+first-dots d r s K l ts = refl
+
+first-selection : (x : Selection) (r s : ℕ) (K : List Sym) (l : ℕ) (ts : List Token)
+    → run false (firstSelection (suc r) s ∷ K) l (selectionTokens x ++ ts) ≡ run false (selections r s ∷ K) l (selectionTokens x ++ ts)
+first-selection (field noAlias n xs ds q) r s K l ts = first-name n r s K l (tailTokens xs ds q ++ ts)
+first-selection (field (alias m k) n xs ds q) r s K l ts = first-name m r s K l (of colon k ∷ nameToken n ∷ (tailTokens xs ds q ++ ts))
+first-selection (fragmentSpread d w n ds) r s K l ts = first-dots d r s K l (of (fragmentKind w) n ∷ (optDirectivesTokens ds ++ ts))
+first-selection (inlineFragment d k ds q) r s K l ts = first-dots d r s K l ((conditionTokens k ++ (optDirectivesTokens ds ++ setTokens q)) ++ ts)
+
+first-selections : (ss : Selections) (r s : ℕ) (K : List Sym) (l : ℕ) (ts : List Token)
+    → run false (firstSelection (suc r) s ∷ K) l (selectionsTokens ss ++ ts) ≡ run false (selections r s ∷ K) l (selectionsTokens ss ++ ts)
+first-selections (oneSelection x) r s K l ts = first-selection x r s K l ts
+first-selections (moreSelections x ss) r s K l ts = rw (append-assoc (selectionTokens x) (selectionsTokens ss) ts) (first-selection x r s K l (selectionsTokens ss ++ ts))
+
+-- a field's first name
+name-due : (n : Name) (r s : ℕ) (K : List Sym) (l : ℕ) (ts : List Token)
+    → Gives (run false (selections r s ∷ K) l (nameToken n ∷ ts)) [] (run false (named r (nameToken n) ∷ selections r s ∷ K) (endOf (nameToken n)) ts)
+unfolding run step atSelections orSelection isName
+name-due n r s K l ts =
+    by-word (λ (k : ℕ). Gives (run false (selections r s ∷ K) l (of k (n .span) ∷ ts)) [] (run false (named r (of k (n .span)) ∷ selections r s ∷ K) (endOf (of k (n .span))) ts))
+    (record { is = refl }) (record { is = refl }) (record { is = refl }) (record { is = refl }) (record { is = refl }) (n .word)
+
+-- a `...`
+dots-due : (d : Span) (r s : ℕ) (K : List Sym) (l : ℕ) (ts : List Token)
+    → Gives (run false (selections r s ∷ K) l (of dots d ∷ ts)) [] (run false (spread r (of dots d) ∷ selections r s ∷ K) (endOf (of dots d)) ts)
+unfolding run step atSelections orSelection isName
+dots-due d r s K l ts = record { is = refl }
+
+-- the name is the field's own
+plain-name : (n : Token) (r : ℕ) (K : List Sym) (l : ℕ) (ts : List Token) → Not colon ts → Gives (run false (named r n ∷ K) l ts) (opens 16 (n .start) ∷ nameEvents n) (run false (afterName r (n .start) K) l ts)
+unfolding run step
+plain-name n r K l [] e = record { is = refl }
+plain-name n r K l (t ∷ ts) e =
+    record { is = rw e (moved-also (opens 16 (n .start) ∷ nameEvents n) (step false l (afterName r (n .start) K) t) (t .start) (λ K′. run false K′ (endOf t) ts)) }
+
+-- the name is an alias
+alias-name : (n : Token) (k : Span) (r : ℕ) (K : List Sym) (l : ℕ) (ts : List Token) → Gives (run false (named r n ∷ K) l (of colon k ∷ ts))
+    (opens 16 (n .start) ∷ opens 17 (n .start) ∷ (nameEvents n ++ (tokenEvent (of colon k) ∷ closes 17 (n .start) (endOf (of colon k)) ∷ []))) (run false (name ∷ afterName r (n .start) K) (endOf (of colon k)) ts)
+unfolding run step
+alias-name n k r K l ts = record { is = refl }
