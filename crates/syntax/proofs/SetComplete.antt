@@ -12,10 +12,10 @@ use Rattle.syntax.specs.Grammar.{Span, of, Name, nameToken, FragmentWord
 use Rattle.syntax.specs.Selections as trees
 use Rattle.syntax.specs.Selections.{Argument, Arguments, oneArgument, moreArguments, OptArguments, noArguments, Directive, Directives, oneDirective, moreDirectives, OptDirectives, noDirectives, OptCondition, noCondition, condition, noAlias, alias, SelectionSet, Selections, oneSelection, moreSelections, Selection, field, fragmentSpread, inlineFragment, OptSelectionSet, noSelectionSet, someSelectionSet, argumentTokens, argumentsTokens, optArgumentsTokens, directiveTokens, directivesTokens, optDirectivesTokens, conditionTokens, setTokens, selectionTokens, selectionsTokens, optSetTokens, argumentEvents, argumentsEvents, optArgumentsEvents, directiveEvents, directivesEvents, optDirectivesEvents, conditionEvents, setEvents, selectionEvents, selectionsEvents, optSetEvents, argumentsDepth, optArgumentsDepth, directivesDepth, optDirectivesDepth, setDepth, selectionDepth, selectionsDepth, optSetDepth}
 use Rattle.syntax.specs.Machine.{Sym, value, name, colonDue, close, selectionSet, optSelectionSet, firstSelection, selections, named, spread, optArguments, firstArgument, arguments, optDirectives, directives, namedType, also, atName, atColon, atNamedType, orSelectionSet, orSelection, atFirstSelection, atSelections, afterName, orArguments, orArgument, atArguments, orDirective, orDirectives, atSpread, step, Read, accepted, emits, moved, run, readSelectionSet}
-use Rattle.syntax.proofs.Steps.{emits-emits, emits-none, Gives, andThen, same-as, moved-also, run-close, endAfter, endAfter-append, endAfter-last, Not, Some, some-last, some-end, by-word, join-first, join-last, end-last, node-bracketed, bracketed}
+use Rattle.syntax.proofs.Steps.{emits-emits, emits-none, Gives, andThen, same-as, events-as, moved-also, run-close, endAfter, endAfter-append, endAfter-last, Not, Some, some-last, some-end, by-word, join-first, join-last, end-last, node-bracketed, bracketed}
 use Rattle.syntax.proofs.ValueComplete.{name-read, value-some, value-read, eof-read}
-use Rattle.syntax.proofs.Forms.{tailTokens, tailEvents}
-use Rattle.syntax.proofs.BackSets.{directive-events}
+use Rattle.syntax.proofs.Forms.{aPlain, anAlias, aFragment, anInline, tailTokens, tailEvents}
+use Rattle.syntax.proofs.BackSets.{directive-events, field-events, spread-events}
 use Rattle.syntax.proofs.SetSound.{set-some}
 
 -- ---- what was proved of names, values and closings
@@ -279,3 +279,178 @@ alias-name : (n : Token) (k : Span) (r : ℕ) (K : List Sym) (l : ℕ) (ts : Lis
     (opens 16 (n .start) ∷ opens 17 (n .start) ∷ (nameEvents n ++ (tokenEvent (of colon k) ∷ closes 17 (n .start) (endOf (of colon k)) ∷ []))) (run false (name ∷ afterName r (n .start) K) (endOf (of colon k)) ts)
 unfolding run step
 alias-name n k r K l ts = record { is = refl }
+
+-- what may follow a field's name, and the field's end
+tail-read : (xs : OptArguments) (ds : OptDirectives) (s : OptSelectionSet) (r q : ℕ) (K : List Sym) (l : ℕ) (ts : List Token) → optArgumentsDepth xs ≤ r → optDirectivesDepth ds ≤ r → Follow ts
+    → ((e : ℕ) → Gives (run false (optSelectionSet r ∷ close 16 q ∷ K) e (optSetTokens s ++ ts)) (optSetEvents s) (run false (close 16 q ∷ K) (endAfter e (optSetTokens s)) ts))
+    → Gives (run false (afterName r q K) l (tailTokens xs ds s ++ ts)) (tailEvents xs ds s ++ (closes 16 q (endAfter l (tailTokens xs ds s)) ∷ [])) (run false K (endAfter l (tailTokens xs ds s)) ts)
+tail-read xs ds s r q K l ts g h f set =
+    let e₁ : ℕ = endAfter l (optArgumentsTokens xs) in
+    let e₂ : ℕ = endAfter e₁ (optDirectivesTokens ds) in
+    let e₃ : ℕ = endAfter e₂ (optSetTokens s) in
+    let us = optSetTokens s ++ ts in
+    rw (join-last (optArgumentsTokens xs) (optDirectivesTokens ds) (optSetTokens s) ts, end-last l (optArgumentsTokens xs) (optDirectivesTokens ds) (optSetTokens s),
+    join-last (optArgumentsEvents xs) (optDirectivesEvents ds) (optSetEvents s) (closes 16 q e₃ ∷ []))
+    (andThen (optArguments-read xs r (optDirectives r ∷ optSelectionSet r ∷ close 16 q ∷ K) l (optDirectivesTokens ds ++ us) g (directives-not parenL ds us refl (set-not parenL s ts refl (f .1))))
+    (andThen (optDirectives-read ds r (optSelectionSet r ∷ close 16 q ∷ K) e₁ us h (set-not parenL s ts refl (f .1)) (set-not at s ts refl (f .2)))
+    (andThen (set e₂) (close-gives 16 q e₃ K ts))))
+
+-- a fragment spread's name
+fragment-name : (d : Token) (w : FragmentWord) (n : Span) (r : ℕ) (K : List Sym) (l : ℕ) (ts : List Token) → Gives (run false (spread r d ∷ K) l (of (fragmentKind w) n ∷ ts))
+    (opens 22 (d .start) ∷ tokenEvent d ∷ node 23 (of (fragmentKind w) n ∷ []) (nameEvents (of (fragmentKind w) n))) (run false (optDirectives r ∷ close 22 (d .start) ∷ K) (endOf (of (fragmentKind w) n)) ts)
+unfolding run step atSpread isFragmentName
+fragment-name d FragmentWord.other n r K l ts = record { is = refl }
+fragment-name d FragmentWord.isTrue n r K l ts = record { is = refl }
+fragment-name d FragmentWord.isFalse n r K l ts = record { is = refl }
+fragment-name d FragmentWord.isNull n r K l ts = record { is = refl }
+
+-- a type condition's `on`
+condition-on : (d : Token) (o : Span) (r : ℕ) (K : List Sym) (l : ℕ) (ts : List Token) → Gives (run false (spread r d ∷ K) l (of wordOn o ∷ ts))
+    (opens 24 (d .start) ∷ tokenEvent d ∷ opens 25 (o .start) ∷ tokenEvent (of wordOn o) ∷ [])
+    (run false (namedType ∷ close 25 (o .start) ∷ optDirectives r ∷ selectionSet r ∷ close 24 (d .start) ∷ K) (endOf (of wordOn o)) ts)
+unfolding run step atSpread isFragmentName
+condition-on d o r K l ts = record { is = refl }
+
+-- its NAMED_TYPE
+type-gives : (n : Name) (K : List Sym) (l : ℕ) (ts : List Token) → Gives (run false (namedType ∷ K) l (nameToken n ∷ ts)) (node 12 (nameToken n ∷ []) (nameEvents (nameToken n))) (run false K (endOf (nameToken n)) ts)
+unfolding run step atNamedType isName
+type-gives n K l ts =
+    by-word (λ (k : ℕ). Gives (run false (namedType ∷ K) l (of k (n .span) ∷ ts)) (node 12 (of k (n .span) ∷ []) (nameEvents (of k (n .span)))) (run false K (endOf (of k (n .span))) ts))
+    (record { is = refl }) (record { is = refl }) (record { is = refl }) (record { is = refl }) (record { is = refl }) (n .word)
+
+-- an inline fragment without a type condition
+inline-at : (d t : Token) (r : ℕ) (K : List Sym) (l : ℕ) (ts : List Token) → isFragmentName (t .kind) ≡ false → eqb (t .kind) wordOn ≡ false
+    → Gives (run false (spread r d ∷ K) l (t ∷ ts)) (opens 24 (d .start) ∷ tokenEvent d ∷ []) (run false (optDirectives r ∷ selectionSet r ∷ close 24 (d .start) ∷ K) l (t ∷ ts))
+unfolding run step atSpread
+inline-at d t r K l ts e f =
+    record { is = rw (e, f) (moved-also (opens 24 (d .start) ∷ tokenEvent d ∷ []) (step false l (optDirectives r ∷ selectionSet r ∷ close 24 (d .start) ∷ K) t) (t .start) (λ K′. run false K′ (endOf t) ts)) }
+
+inline-due : (d : Token) (ds : OptDirectives) (s : SelectionSet) (r : ℕ) (K : List Sym) (l : ℕ) (ts : List Token)
+    → Gives (run false (spread r d ∷ K) l (optDirectivesTokens ds ++ (setTokens s ++ ts))) (opens 24 (d .start) ∷ tokenEvent d ∷ [])
+    (run false (optDirectives r ∷ selectionSet r ∷ close 24 (d .start) ∷ K) l (optDirectivesTokens ds ++ (setTokens s ++ ts)))
+unfolding isFragmentName
+inline-due d noDirectives (trees.selectionSet a ss b) r K l ts = inline-at d (of braceL a) r K l ((selectionsTokens ss ++ (of braceR b ∷ [])) ++ ts) refl refl
+inline-due d (trees.directives (oneDirective x)) s r K l ts = inline-at d (of at (x .atAt)) r K l (nameToken (x .name) ∷ (optArgumentsTokens (x .args) ++ (setTokens s ++ ts))) refl refl
+inline-due d (trees.directives (moreDirectives x ds)) s r K l ts =
+    inline-at d (of at (x .atAt)) r K l (nameToken (x .name) ∷ ((optArgumentsTokens (x .args) ++ directivesTokens ds) ++ (setTokens s ++ ts))) refl refl
+
+-- ---- selection sets
+
+-- the `{`, the `}`
+set-open : (a : Span) (r : ℕ) (K : List Sym) (l : ℕ) (ts : List Token)
+    → Gives (run false (selectionSet r ∷ K) l (of braceL a ∷ ts)) (opens 15 (a .start) ∷ tokenEvent (of braceL a) ∷ []) (run false (firstSelection r (a .start) ∷ K) (endOf (of braceL a)) ts)
+unfolding run step orSelectionSet
+set-open a r K l ts = record { is = refl }
+
+selections-end : (r s : ℕ) (K : List Sym) (l : ℕ) (b : Span) (ts : List Token)
+    → Gives (run false (selections r s ∷ K) l (of braceR b ∷ ts)) (tokenEvent (of braceR b) ∷ closes 15 s (endOf (of braceR b)) ∷ []) (run false K (endOf (of braceR b)) ts)
+unfolding run step atSelections
+selections-end r s K l b ts = record { is = refl }
+
+-- a selection set that may be missing, but is not
+some-set : (s : SelectionSet) (r : ℕ) (K : List Sym) (l : ℕ) (ts : List Token) → run false (optSelectionSet r ∷ K) l (setTokens s ++ ts) ≡ run false (selectionSet r ∷ K) l (setTokens s ++ ts)
+unfolding run step orSelectionSet
+some-set (trees.selectionSet a ss b) r K l ts = refl
+
+no-set : (r : ℕ) (K : List Sym) (l : ℕ) (ts : List Token) → Not braceL ts → Gives (run false (optSelectionSet r ∷ K) l ts) [] (run false K l ts)
+unfolding run step orSelectionSet
+no-set r K l [] n = record { is = refl }
+no-set r K l (t ∷ ts) n = record { is = rw n (sym (emits-none (moved (step false l K t) (t .start) (λ K′. run false K′ (endOf t) ts)))) }
+
+set-not-paren : (k : ℕ) (s : SelectionSet) (ts : List Token) → eqb braceL k ≡ false → Not k (setTokens s ++ ts)
+set-not-paren k (trees.selectionSet a ss b) ts e = e
+
+mutual
+  -- whatever is due below, a selection set's tokens give its events and leave that due
+  pub set-read : (x : SelectionSet) (r : ℕ) (K : List Sym) (l : ℕ) (ts : List Token) → setDepth x ≤ r
+      → Gives (run false (selectionSet r ∷ K) l (setTokens x ++ ts)) (setEvents x) (run false K (endAfter l (setTokens x)) ts)
+  set-read (trees.selectionSet a ss b) zero K l ts h = absurd (omega arith)
+  set-read (trees.selectionSet a ss b) (suc r) K l ts h =
+      rw (append-assoc (selectionsTokens ss) (of braceR b ∷ []) ts, endAfter-last l (of braceL a) (selectionsTokens ss ++ (of braceR b ∷ [])))
+      (bracket-gives 15 (of braceL a) (of braceR b) (selectionsTokens ss) ts (selectionsEvents ss) K
+      (set-open a (suc r) K l (selectionsTokens ss ++ (of braceR b ∷ ts)))
+      (same-as (first-selections ss r (a .start) K (endOf (of braceL a)) (of braceR b ∷ ts)) (selections-read ss r (a .start) K (endOf (of braceL a)) b ts (omega arith))))
+
+  -- some selections and the `}`
+  pub selections-read : (ss : Selections) (r s : ℕ) (K : List Sym) (l : ℕ) (b : Span) (ts : List Token) → selectionsDepth ss ≤ r
+      → Gives (run false (selections r s ∷ K) l (selectionsTokens ss ++ (of braceR b ∷ ts)))
+      (selectionsEvents ss ++ (tokenEvent (of braceR b) ∷ closes 15 s (endOf (of braceR b)) ∷ [])) (run false K (endOf (of braceR b)) ts)
+  selections-read (oneSelection x) r s K l b ts h =
+      andThen (selection-read x r s K l (of braceR b ∷ ts) h (refl, refl, refl, refl)) (selections-end r s K (endAfter l (selectionTokens x)) b ts)
+  selections-read (moreSelections x ss) r s K l b ts h =
+      rw (append-assoc (selectionTokens x) (selectionsTokens ss) (of braceR b ∷ ts),
+      append-assoc (selectionEvents x) (selectionsEvents ss) (tokenEvent (of braceR b) ∷ closes 15 s (endOf (of braceR b)) ∷ []))
+      (andThen (selection-read x r s K l (selectionsTokens ss ++ (of braceR b ∷ ts)) (omega arith) (follow-selections ss (of braceR b ∷ ts)))
+      (selections-read ss r s K (endAfter l (selectionTokens x)) b ts (omega arith)))
+
+  -- a selection, before what may follow one
+  pub selection-read : (x : Selection) (r s : ℕ) (K : List Sym) (l : ℕ) (ts : List Token) → selectionDepth x ≤ r → Follow ts
+      → Gives (run false (selections r s ∷ K) l (selectionTokens x ++ ts)) (selectionEvents x) (run false (selections r s ∷ K) (endAfter l (selectionTokens x)) ts)
+  selection-read (field noAlias n xs ds q) r s K l ts h f =
+      let g₁ : optArgumentsDepth xs ≤ r = omega arith in
+      let g₂ : optDirectivesDepth ds ≤ r = omega arith in
+      let g₃ : optSetDepth q ≤ r = omega arith in
+      let p : ℕ = n .span .start in
+      events-as (field-events {c = false} n (aPlain xs ds q g₁ g₂ g₃))
+      (andThen (name-due n r s K l (tailTokens xs ds q ++ ts))
+      (andThen (plain-name (nameToken n) r (selections r s ∷ K) (endOf (nameToken n)) (tailTokens xs ds q ++ ts) (tail-not-colon xs ds q ts (f .0)))
+      (tail-read xs ds q r p (selections r s ∷ K) (endOf (nameToken n)) ts g₁ g₂ f (λ e. optSet-read q r (close 16 p ∷ selections r s ∷ K) e ts g₃ (f .3)))))
+  selection-read (field (alias m k) n xs ds q) r s K l ts h f =
+      let g₁ : optArgumentsDepth xs ≤ r = omega arith in
+      let g₂ : optDirectivesDepth ds ≤ r = omega arith in
+      let g₃ : optSetDepth q ≤ r = omega arith in
+      let p : ℕ = m .span .start in
+      events-as (field-events {c = false} m (anAlias k n xs ds q g₁ g₂ g₃))
+      (andThen (name-due m r s K l (of colon k ∷ nameToken n ∷ (tailTokens xs ds q ++ ts)))
+      (andThen (alias-name (nameToken m) k r (selections r s ∷ K) (endOf (nameToken m)) (nameToken n ∷ (tailTokens xs ds q ++ ts)))
+      (andThen (name-gives n (afterName r p (selections r s ∷ K)) (endOf (of colon k)) (tailTokens xs ds q ++ ts))
+      (tail-read xs ds q r p (selections r s ∷ K) (endOf (nameToken n)) ts g₁ g₂ f (λ e. optSet-read q r (close 16 p ∷ selections r s ∷ K) e ts g₃ (f .3))))))
+  selection-read (fragmentSpread d w n ds) r s K l ts h f =
+      let e : ℕ = endOf (of (fragmentKind w) n) in
+      events-as (spread-events {c = false} d (aFragment w n ds h))
+      (andThen (dots-due d r s K l (of (fragmentKind w) n ∷ (optDirectivesTokens ds ++ ts)))
+      (andThen (fragment-name (of dots d) w n r (selections r s ∷ K) (endOf (of dots d)) (optDirectivesTokens ds ++ ts))
+      (andThen (optDirectives-read ds r (close 22 (d .start) ∷ selections r s ∷ K) e ts h (f .1) (f .2))
+      (close-gives 22 (d .start) (endAfter e (optDirectivesTokens ds)) (selections r s ∷ K) ts))))
+  selection-read (inlineFragment d noCondition ds q) r s K l ts h f =
+      let g₁ : optDirectivesDepth ds ≤ r = omega arith in
+      let g₂ : setDepth q ≤ r = omega arith in
+      let us = setTokens q ++ ts in
+      let p : ℕ = d .start in
+      let e₁ : ℕ = endOf (of dots d) in
+      let e₂ : ℕ = endAfter e₁ (optDirectivesTokens ds) in
+      events-as (spread-events {c = false} d (anInline noCondition ds q g₁ g₂))
+      (rw (append-assoc (optDirectivesTokens ds) (setTokens q) ts, endAfter-append e₁ (optDirectivesTokens ds) (setTokens q))
+      (andThen (dots-due d r s K l (optDirectivesTokens ds ++ us))
+      (andThen (inline-due (of dots d) ds q r (selections r s ∷ K) e₁ ts)
+      (andThen (optDirectives-read ds r (selectionSet r ∷ close 24 p ∷ selections r s ∷ K) e₁ us g₁ (set-not-paren parenL q ts refl) (set-not-paren at q ts refl))
+      (andThen (set-read q r (close 24 p ∷ selections r s ∷ K) e₂ ts g₂)
+      (close-gives 24 p (endAfter e₂ (setTokens q)) (selections r s ∷ K) ts))))))
+  selection-read (inlineFragment d (condition o n) ds q) r s K l ts h f =
+      let g₁ : optDirectivesDepth ds ≤ r = omega arith in
+      let g₂ : setDepth q ≤ r = omega arith in
+      let us = setTokens q ++ ts in
+      let p : ℕ = d .start in
+      let e₁ : ℕ = endOf (nameToken n) in
+      let e₂ : ℕ = endAfter e₁ (optDirectivesTokens ds) in
+      let K₁ = optDirectives r ∷ selectionSet r ∷ close 24 p ∷ selections r s ∷ K in
+      events-as (spread-events {c = false} d (anInline (condition o n) ds q g₁ g₂))
+      (rw (append-assoc (optDirectivesTokens ds) (setTokens q) ts, endAfter-append e₁ (optDirectivesTokens ds) (setTokens q))
+      (andThen (dots-due d r s K l (of wordOn o ∷ nameToken n ∷ (optDirectivesTokens ds ++ us)))
+      (andThen (condition-on (of dots d) o r (selections r s ∷ K) (endOf (of dots d)) (nameToken n ∷ (optDirectivesTokens ds ++ us)))
+      (andThen (type-gives n (close 25 (o .start) ∷ K₁) (endOf (of wordOn o)) (optDirectivesTokens ds ++ us))
+      (andThen (close-gives 25 (o .start) e₁ K₁ (optDirectivesTokens ds ++ us))
+      (andThen (optDirectives-read ds r (selectionSet r ∷ close 24 p ∷ selections r s ∷ K) e₁ us g₁ (set-not-paren parenL q ts refl) (set-not-paren at q ts refl))
+      (andThen (set-read q r (close 24 p ∷ selections r s ∷ K) e₂ ts g₂)
+      (close-gives 24 p (endAfter e₂ (setTokens q)) (selections r s ∷ K) ts))))))))
+
+  -- a selection set, or none
+  pub optSet-read : (x : OptSelectionSet) (r : ℕ) (K : List Sym) (l : ℕ) (ts : List Token) → optSetDepth x ≤ r → Not braceL ts
+      → Gives (run false (optSelectionSet r ∷ K) l (optSetTokens x ++ ts)) (optSetEvents x) (run false K (endAfter l (optSetTokens x)) ts)
+  optSet-read noSelectionSet r K l ts h n = no-set r K l ts n
+  optSet-read (someSelectionSet x) r K l ts h n = same-as (some-set x r K l ts) (set-read x r K l ts h)
+
+-- a selection set within the limit, then Eof, is accepted, with its events
+pub set-complete : (d : ℕ) (x : SelectionSet) (e : Token) (ts : List Token) → setDepth x ≤ d → e .kind ≡ eof → readSelectionSet d (setTokens x ++ (e ∷ ts)) ≡ accepted (setEvents x)
+set-complete d x e ts h k =
+    set-read x d [] 0 (e ∷ ts) h .is ∙ ap (emits (setEvents x)) (eof-read false (endAfter 0 (setTokens x)) e ts k) ∙ ap accepted (append-nil (setEvents x))

@@ -30,6 +30,9 @@ andThen {d = d} {es = es} {fs = fs} p q = record { is = p .is ∙ ap (emits es) 
 pub same-as : {a b d : Read} {es : List Item} → a ≡ b → Gives b es d → Gives a es d
 same-as p q = record { is = p ∙ q .is }
 
+pub events-as : {a b : Read} {es fs : List Item} → es ≡ fs → Gives a fs b → Gives a es b
+events-as p q = rw p q
+
 -- what is refused behind events is refused
 pub emits-refused : (a : Read) (es : List Item) (n p : ℕ) → emits es a ≡ refused n p → a ≡ refused n p
 emits-refused (refused m q) es n p e = e
