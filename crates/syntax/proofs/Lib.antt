@@ -12,3 +12,4 @@ pub mod SetSound
 pub mod SetComplete
 pub mod TypeComplete
 pub mod TypeSound
+pub mod Counts
