@@ -13,3 +13,4 @@ pub mod SetComplete
 pub mod TypeComplete
 pub mod TypeSound
 pub mod Counts
+pub mod Depth
