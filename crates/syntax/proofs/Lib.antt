@@ -14,3 +14,4 @@ pub mod TypeComplete
 pub mod TypeSound
 pub mod Counts
 pub mod Depth
+pub mod Cst
