@@ -15,3 +15,4 @@ pub mod TypeSound
 pub mod Counts
 pub mod Depth
 pub mod Cst
+pub mod Nest
