@@ -16,3 +16,4 @@ pub mod Counts
 pub mod Depth
 pub mod Cst
 pub mod Nest
+pub mod Unique

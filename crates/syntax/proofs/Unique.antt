@@ -1,0 +1,212 @@
+-- Two trees of nodes and tokens with the same tokens and the same events are the same; and a value, a type or a selection set can be had back
+-- from its tree. Assumes nothing.
+use Prim.Native.Nat.{ℕ, suc, _+_, _<_, _≤_}
+use native.Mathlib.Omega.{arith}
+use mathlib.Core.Path.{_≡_, refl, sym, ap, ap₂, _∙_, subst}
+use mathlib.Core.Bool.{Bool, true, false}
+use mathlib.Core.List.{List, [], _∷_, _++_, append-assoc, append-nil}
+use lib.Dec.{T, T-prop, ltb, eqb, ltb→lt}
+use Rattle.base.specs.Text.{pick}
+use Rattle.base.specs.Item.{Item, item}
+use Rattle.syntax.specs.Token.{bracketR, braceR, wordTrue, wordFalse, wordNull, wordOn, Token, codeOf, tokenEvent, closes}
+use Rattle.syntax.specs.Grammar.{Span, of, Word, kindOf, Name, nameToken, EnumWord, enumKind, FragmentWord, fragmentKind, startOf, lastEnd, Value, variable, intValue, floatValue, stringValue, trueValue, falseValue, nullValue, enumValue, listValue, objectValue, Values, noValue, aValue, Fields, noField, aField}
+use Rattle.syntax.specs.Types.{Ty, nullable, nonNull, Base, namedType, listType}
+use Rattle.syntax.specs.Selections.{Argument, Arguments, oneArgument, moreArguments, OptArguments, noArguments, arguments, Directive, Directives, oneDirective, moreDirectives, OptDirectives, noDirectives, directives, noAlias, alias, OptCondition, noCondition, condition, SelectionSet, selectionSet, Selections, oneSelection, moreSelections, Selection, field, fragmentSpread, inlineFragment, OptSelectionSet, noSelectionSet, someSelectionSet}
+use Rattle.syntax.proofs.Steps.{join}
+use Rattle.syntax.proofs.Cst.{Cst, tok, nod, Csts, none, some, cat, cstTokens, cstsTokens, cstEvents, cstsEvents, nameCst, valueCst, valuesCst, fieldsCst, tyCst, baseCst, argumentCst, argumentsCst, optArgumentsCst, directiveCst, directivesCst, optDirectivesCst, conditionCst, setCst, selectionsCst, selectionCst, optSetCst}
+
+-- ---- one tree
+
+head-code : {e f : Item} {es fs : List Item} → e ∷ es ≡ f ∷ fs → e .code ≡ f .code
+head-code {e} {f} p = let q : e ≡ f = cc in ap (λ (x : Item). x .code) q
+
+tail-items : {e f : Item} {es fs : List Item} → e ∷ es ≡ f ∷ fs → es ≡ fs
+tail-items p = cc
+
+-- a node's parts
+nod-same : {x y : Cst} {xs ys : Csts} (n m : ℕ) (p : T (ltb n 64)) (q : T (ltb m 64)) → n ≡ m → x ≡ y → xs ≡ ys → nod n p x xs ≡ nod m q y ys
+nod-same {x} {y} {xs} {ys} n m p q e f g =
+    ap₂ (λ (z : Cst) (zs : Csts). nod n p z zs) f g
+    ∙ subst (λ (k : ℕ). (a : T (ltb k 64)) → nod n p y ys ≡ nod k a y ys) e (λ a. ap (λ (b : T (ltb n 64)). nod n b y ys) (T-prop (ltb n 64) p a)) q
+
+-- a closing is no tree's first event
+not-closing : (y : Cst) (es fs : List Item) (n s e : ℕ) → T (ltb n 64) → closes n s e ∷ es ≡ cstEvents y ++ fs → ⊥
+not-closing (tok t) es fs n s e a p = omega (arith, head-code p, ltb→lt n 64 a)
+not-closing (nod m b x xs) es fs n s e a p = omega (arith, head-code p, ltb→lt m 64 b)
+
+mutual
+  cst-unique : (x y : Cst) (es fs : List Item) (ts us : List Token) → cstEvents x ++ es ≡ cstEvents y ++ fs → cstTokens x ++ ts ≡ cstTokens y ++ us → (x ≡ y) × (es ≡ fs) × (ts ≡ us)
+  cst-unique (tok t) (tok u) es fs ts us p q = let h : t ≡ u = cc in (ap tok h, tail-items p, cc)
+  cst-unique (tok t) (nod n a x xs) es fs ts us p q = absurd (omega (arith, head-code p, ltb→lt n 64 a))
+  cst-unique (nod n a x xs) (tok u) es fs ts us p q = absurd (omega (arith, head-code p, ltb→lt n 64 a))
+  cst-unique (nod n a x xs) (nod m b y ys) es fs ts us p q =
+      let c = closes n (startOf (cstTokens x ++ cstsTokens xs)) (lastEnd (cstTokens x ++ cstsTokens xs)) in
+      let d = closes m (startOf (cstTokens y ++ cstsTokens ys)) (lastEnd (cstTokens y ++ cstsTokens ys)) in
+      let w = cst-unique x y (cstsEvents xs ++ (c ∷ es)) (cstsEvents ys ++ (d ∷ fs)) (cstsTokens xs ++ ts) (cstsTokens ys ++ us)
+          (sym (join (cstEvents x) (cstsEvents xs) (c ∷ []) es) ∙ tail-items p ∙ join (cstEvents y) (cstsEvents ys) (d ∷ []) fs)
+          (sym (append-assoc (cstTokens x) (cstsTokens xs) ts) ∙ q ∙ append-assoc (cstTokens y) (cstsTokens ys) us) in
+      let v = csts-unique xs ys es fs ts us n m (startOf (cstTokens x ++ cstsTokens xs)) (startOf (cstTokens y ++ cstsTokens ys)) (lastEnd (cstTokens x ++ cstsTokens xs)) (lastEnd (cstTokens y ++ cstsTokens ys)) a b (w .1) (w .2) in
+      (nod-same n m a b (head-code p) (w .0) (v .0), v .1, v .2)
+
+  csts-unique : (xs ys : Csts) (es fs : List Item) (ts us : List Token) (n m s s′ e e′ : ℕ) → T (ltb n 64) → T (ltb m 64)
+      → cstsEvents xs ++ (closes n s e ∷ es) ≡ cstsEvents ys ++ (closes m s′ e′ ∷ fs) → cstsTokens xs ++ ts ≡ cstsTokens ys ++ us → (xs ≡ ys) × (es ≡ fs) × (ts ≡ us)
+  csts-unique none none es fs ts us n m s s′ e e′ a b p q = (refl, tail-items p, q)
+  csts-unique none (some y ys) es fs ts us n m s s′ e e′ a b p q = absurd (not-closing y es (cstsEvents ys ++ (closes m s′ e′ ∷ fs)) n s e a (p ∙ append-assoc (cstEvents y) (cstsEvents ys) (closes m s′ e′ ∷ fs)))
+  csts-unique (some x xs) none es fs ts us n m s s′ e e′ a b p q = absurd (not-closing x fs (cstsEvents xs ++ (closes n s e ∷ es)) m s′ e′ b (sym p ∙ append-assoc (cstEvents x) (cstsEvents xs) (closes n s e ∷ es)))
+  csts-unique (some x xs) (some y ys) es fs ts us n m s s′ e e′ a b p q =
+      let w = cst-unique x y (cstsEvents xs ++ (closes n s e ∷ es)) (cstsEvents ys ++ (closes m s′ e′ ∷ fs)) (cstsTokens xs ++ ts) (cstsTokens ys ++ us)
+          (sym (append-assoc (cstEvents x) (cstsEvents xs) (closes n s e ∷ es)) ∙ p ∙ append-assoc (cstEvents y) (cstsEvents ys) (closes m s′ e′ ∷ fs))
+          (sym (append-assoc (cstTokens x) (cstsTokens xs) ts) ∙ q ∙ append-assoc (cstTokens y) (cstsTokens ys) us) in
+      let v = csts-unique xs ys es fs ts us n m s s′ e e′ a b (w .1) (w .2) in
+      (ap₂ some (w .0) (v .0), v .1, v .2)
+
+-- the same tokens and the same events: the same tree
+pub one-cst : (x y : Cst) → cstTokens x ≡ cstTokens y → cstEvents x ≡ cstEvents y → x ≡ y
+one-cst x y p q =
+    cst-unique x y [] [] [] [] (append-nil (cstEvents x) ∙ q ∙ sym (append-nil (cstEvents y))) (append-nil (cstTokens x) ∙ p ∙ sym (append-nil (cstTokens y))) .0
+
+-- ---- back from the tree: parts
+
+-- the span and the kind of the first token
+abbrev spanAt : Cst → Span
+spanAt (tok t) = record { start = t .start; size = t .size }
+spanAt (nod n p x xs) = spanAt x
+
+abbrev kindAt : Cst → ℕ
+kindAt (tok t) = t .kind
+kindAt (nod n p x xs) = kindAt x
+
+abbrev noSpan : Span
+noSpan = record { start = 0; size = 0 }
+
+-- of the first child, of the last child
+abbrev firstSpan : Csts → Span
+firstSpan none = noSpan
+firstSpan (some x xs) = spanAt x
+
+abbrev lastSpan : Csts → Span
+lastSpan none = noSpan
+lastSpan (some x none) = spanAt x
+lastSpan (some x (some y xs)) = lastSpan (some y xs)
+
+abbrev wordAt : ℕ → Word
+wordAt k = pick (eqb k wordTrue) Word.isTrue (pick (eqb k wordFalse) Word.isFalse (pick (eqb k wordNull) Word.isNull (pick (eqb k wordOn) Word.isOn Word.other)))
+
+abbrev nameAt : Cst → Name
+nameAt x = record { word = wordAt (kindAt x); span = spanAt x }
+
+abbrev firstName : Csts → Name
+firstName none = record { word = Word.other; span = noSpan }
+firstName (some x xs) = nameAt x
+
+abbrev codeIs : ℕ → Cst → Bool
+codeIs k (tok t) = false
+codeIs k (nod n p x xs) = eqb n k
+
+abbrev isNode : Cst → Bool
+isNode (tok t) = false
+isNode (nod n p x xs) = true
+
+word-back : (w : Word) → wordAt (kindOf w) ≡ w
+word-back Word.other = refl
+word-back Word.isTrue = refl
+word-back Word.isFalse = refl
+word-back Word.isNull = refl
+word-back Word.isOn = refl
+
+name-back : (n : Name) → nameAt (nameCst (nameToken n)) ≡ n
+name-back n = ap (λ (w : Word). record { word = w; span = n .span }) (word-back (n .word))
+
+last-back : (xs : Csts) (t : Token) → lastSpan (cat xs (some (tok t) none)) ≡ record { start = t .start; size = t .size }
+last-back none t = refl
+last-back (some x none) t = refl
+last-back (some x (some y xs)) t = last-back (some y xs) t
+
+-- ---- values
+
+abbrev unVariable : (c : Bool) → Span → Name → Value c
+unVariable false d n = variable d n
+unVariable true d n = nullValue d
+
+abbrev consValue : {c : Bool} → Bool → Value c → Values c → Values c
+consValue true v vs = aValue v vs
+consValue false v vs = noValue
+
+record ObjectField (c : Bool) : Type 0 where
+  name : Name
+  colonAt : Span
+  value : Value c
+
+abbrev consField : {c : Bool} → Bool → ObjectField c → Fields c → Fields c
+consField true f fs = aField (f .name) (f .colonAt) (f .value) fs
+consField false f fs = noField
+
+abbrev mutual
+  unValue : (c : Bool) → Cst → Value c
+  unValue c (tok t) = nullValue noSpan
+  unValue c (nod n p x xs) =
+      pick (eqb n 2) (intValue (spanAt x))
+      (pick (eqb n 3) (floatValue (spanAt x))
+      (pick (eqb n 4) (stringValue (spanAt x))
+      (pick (eqb n 5) (pick (eqb (kindAt x) wordTrue) (trueValue (spanAt x)) (falseValue (spanAt x)))
+      (pick (eqb n 6) (nullValue (spanAt x))
+      (pick (eqb n 7) (enumValue (pick (eqb (kindAt x) wordOn) EnumWord.isOn EnumWord.other) (spanAt x))
+      (pick (eqb n 8) (listValue (spanAt x) (unValues c xs) (lastSpan xs))
+      (pick (eqb n 9) (objectValue (spanAt x) (unFields c xs) (lastSpan xs))
+      (unVariable c (spanAt x) (firstName xs)))))))))
+
+  unValues : (c : Bool) → Csts → Values c
+  unValues c none = noValue
+  unValues c (some x xs) = consValue (isNode x) (unValue c x) (unValues c xs)
+
+  unFields : (c : Bool) → Csts → Fields c
+  unFields c none = noField
+  unFields c (some x xs) = consField (isNode x) (unField c x) (unFields c xs)
+
+  unField : (c : Bool) → Cst → ObjectField c
+  unField c (tok t) = record { name = record { word = Word.other; span = noSpan }; colonAt = noSpan; value = nullValue noSpan }
+  unField c (nod n p x xs) = record { name = nameAt x; colonAt = firstSpan xs; value = unSecond c xs }
+
+  -- the second child, the first child
+  unSecond : (c : Bool) → Csts → Value c
+  unSecond c none = nullValue noSpan
+  unSecond c (some x xs) = unFirst c xs
+
+  unFirst : (c : Bool) → Csts → Value c
+  unFirst c none = nullValue noSpan
+  unFirst c (some x xs) = unValue c x
+
+value-node : {c : Bool} (v : Value c) → isNode (valueCst v) ≡ true
+value-node (variable d n) = refl
+value-node (intValue s) = refl
+value-node (floatValue s) = refl
+value-node (stringValue s) = refl
+value-node (trueValue s) = refl
+value-node (falseValue s) = refl
+value-node (nullValue s) = refl
+value-node (enumValue w s) = refl
+value-node (listValue l vs r) = refl
+value-node (objectValue l fs r) = refl
+
+mutual
+  -- a value can be had back from its tree
+  pub value-back : {c : Bool} (v : Value c) → unValue c (valueCst v) ≡ v
+  value-back (variable d n) = ap (variable d) (name-back n)
+  value-back (intValue s) = refl
+  value-back (floatValue s) = refl
+  value-back (stringValue s) = refl
+  value-back (trueValue s) = refl
+  value-back (falseValue s) = refl
+  value-back (nullValue s) = refl
+  value-back (enumValue EnumWord.other s) = refl
+  value-back (enumValue EnumWord.isOn s) = refl
+  value-back (listValue l vs r) = ap₂ (listValue l) (values-back vs (of bracketR r)) (last-back (valuesCst vs) (of bracketR r))
+  value-back (objectValue l fs r) = ap₂ (objectValue l) (fields-back fs (of braceR r)) (last-back (fieldsCst fs) (of braceR r))
+
+  values-back : {c : Bool} (vs : Values c) (t : Token) → unValues c (cat (valuesCst vs) (some (tok t) none)) ≡ vs
+  values-back noValue t = refl
+  values-back (aValue v vs) t = rw (value-node v) (ap₂ aValue (value-back v) (values-back vs t))
+
+  fields-back : {c : Bool} (fs : Fields c) (t : Token) → unFields c (cat (fieldsCst fs) (some (tok t) none)) ≡ fs
+  fields-back noField t = refl
+  fields-back (aField n k v fs) t = rw (name-back n) (ap₂ (aField n k) (value-back v) (fields-back fs t))
