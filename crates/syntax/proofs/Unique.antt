@@ -8,7 +8,7 @@ use mathlib.Core.List.{List, [], _∷_, _++_, append-assoc, append-nil}
 use lib.Dec.{T, T-prop, ltb, eqb, ltb→lt}
 use Rattle.base.specs.Text.{pick}
 use Rattle.base.specs.Item.{Item, item}
-use Rattle.syntax.specs.Token.{bracketR, braceR, wordTrue, wordFalse, wordNull, wordOn, Token, codeOf, tokenEvent, closes}
+use Rattle.syntax.specs.Token.{parenR, bracketR, braceR, wordTrue, wordFalse, wordNull, wordOn, Token, codeOf, tokenEvent, closes}
 use Rattle.syntax.specs.Grammar.{Span, of, Word, kindOf, Name, nameToken, EnumWord, enumKind, FragmentWord, fragmentKind, startOf, lastEnd, Value, variable, intValue, floatValue, stringValue, trueValue, falseValue, nullValue, enumValue, listValue, objectValue, Values, noValue, aValue, Fields, noField, aField}
 use Rattle.syntax.specs.Types.{Ty, nullable, nonNull, Base, namedType, listType}
 use Rattle.syntax.specs.Selections.{Argument, Arguments, oneArgument, moreArguments, OptArguments, noArguments, arguments, Directive, Directives, oneDirective, moreDirectives, OptDirectives, noDirectives, directives, noAlias, alias, OptCondition, noCondition, condition, SelectionSet, selectionSet, Selections, oneSelection, moreSelections, Selection, field, fragmentSpread, inlineFragment, OptSelectionSet, noSelectionSet, someSelectionSet}
@@ -210,3 +210,212 @@ mutual
   fields-back : {c : Bool} (fs : Fields c) (t : Token) → unFields c (cat (fieldsCst fs) (some (tok t) none)) ≡ fs
   fields-back noField t = refl
   fields-back (aField n k v fs) t = rw (name-back n) (ap₂ (aField n k) (value-back v) (fields-back fs t))
+
+-- ---- types
+
+abbrev mutual
+  unTy : Cst → Ty
+  unTy (tok t) = nullable (namedType (nameAt (tok t)))
+  unTy (nod n p x xs) =
+      pick (eqb n 14) (nonNull (unBase x) (firstSpan xs))
+      (nullable (pick (eqb n 12) (namedType (nameAt x)) (listType (spanAt x) (firstTy xs) (lastSpan xs))))
+
+  unBase : Cst → Base
+  unBase (tok t) = namedType (nameAt (tok t))
+  unBase (nod n p x xs) = pick (eqb n 12) (namedType (nameAt x)) (listType (spanAt x) (firstTy xs) (lastSpan xs))
+
+  firstTy : Csts → Ty
+  firstTy none = nullable (namedType (firstName none))
+  firstTy (some x xs) = unTy x
+
+mutual
+  -- a type can be had back from its tree
+  pub ty-back : (t : Ty) → unTy (tyCst t) ≡ t
+  ty-back (nullable b) = base-nullable b
+  ty-back (nonNull b s) = ap (λ (c : Base). nonNull c s) (base-back b)
+
+  base-nullable : (b : Base) → unTy (baseCst b) ≡ nullable b
+  base-nullable (namedType n) = ap (λ (m : Name). nullable (namedType m)) (name-back n)
+  base-nullable (listType l t r) = ap (λ (u : Ty). nullable (listType l u r)) (ty-back t)
+
+  base-back : (b : Base) → unBase (baseCst b) ≡ b
+  base-back (namedType n) = ap namedType (name-back n)
+  base-back (listType l t r) = ap (λ (u : Ty). listType l u r) (ty-back t)
+
+-- ---- selection sets
+
+-- f of the first child of code k, if there is one; else z
+abbrev find : {A : Type 0} → ℕ → (Cst → A) → A → Csts → A
+find k f z none = z
+find k f z (some x xs) = pick (codeIs k x) (f x) (find k f z xs)
+
+-- no child has the code k
+abbrev Lacks : ℕ → Csts → Type 0
+Lacks k none = Unit {0}
+Lacks k (some x xs) = (codeIs k x ≡ false) × Lacks k xs
+
+find-skip : {A : Type 0} (k : ℕ) (f : Cst → A) (z : A) (xs ys : Csts) → Lacks k xs → find k f z (cat xs ys) ≡ find k f z ys
+find-skip k f z none ys h = refl
+find-skip k f z (some x xs) ys h = rw (h .0) (find-skip k f z xs ys (h .1))
+
+find-lacks : {A : Type 0} (k : ℕ) (f : Cst → A) (z : A) (xs : Csts) → Lacks k xs → find k f z xs ≡ z
+find-lacks k f z none h = refl
+find-lacks k f z (some x xs) h = rw (h .0) (find-lacks k f z xs (h .1))
+
+lacks-cat : (k : ℕ) (xs ys : Csts) → Lacks k xs → Lacks k ys → Lacks k (cat xs ys)
+lacks-cat k none ys g h = h
+lacks-cat k (some x xs) ys g h = (g .0, lacks-cat k xs ys (g .1) h)
+
+lacks-arguments : (k : ℕ) (xs : OptArguments) → eqb 18 k ≡ false → Lacks k (optArgumentsCst xs)
+lacks-arguments k noArguments e = tt
+lacks-arguments k (arguments l xs r) e = (e, tt)
+
+lacks-directives : (k : ℕ) (ds : OptDirectives) → eqb 20 k ≡ false → Lacks k (optDirectivesCst ds)
+lacks-directives k noDirectives e = tt
+lacks-directives k (directives (oneDirective d)) e = (e, tt)
+lacks-directives k (directives (moreDirectives d ds)) e = (e, tt)
+
+lacks-condition : (k : ℕ) (c : OptCondition) → eqb 25 k ≡ false → Lacks k (conditionCst c)
+lacks-condition k noCondition e = tt
+lacks-condition k (condition o n) e = (e, tt)
+
+lacks-set : (k : ℕ) (s : SelectionSet) → eqb 15 k ≡ false → Lacks k (some (setCst s) none)
+lacks-set k (selectionSet l ss r) e = (e, tt)
+
+lacks-optSet : (k : ℕ) (s : OptSelectionSet) → eqb 15 k ≡ false → Lacks k (optSetCst s)
+lacks-optSet k noSelectionSet e = tt
+lacks-optSet k (someSelectionSet s) e = lacks-set k s e
+
+-- is the first child a node?
+abbrev headNode : Csts → Bool
+headNode none = false
+headNode (some x xs) = isNode x
+
+abbrev unArgument : Cst → Argument
+unArgument (tok t) = record { name = firstName none; colonAt = noSpan; value = nullValue noSpan }
+unArgument (nod n p x xs) = record { name = nameAt x; colonAt = firstSpan xs; value = unSecond false xs }
+
+abbrev unArguments : Csts → Arguments
+unArguments none = oneArgument (unArgument (tok (of 0 noSpan)))
+unArguments (some x xs) = pick (headNode xs) (moreArguments (unArgument x) (unArguments xs)) (oneArgument (unArgument x))
+
+abbrev unOptArguments : Cst → OptArguments
+unOptArguments (tok t) = noArguments
+unOptArguments (nod n p x xs) = arguments (spanAt x) (unArguments xs) (lastSpan xs)
+
+abbrev argumentsIn : Csts → OptArguments
+argumentsIn xs = find 18 unOptArguments noArguments xs
+
+argument-back : (a : Argument) → unArgument (argumentCst a) ≡ a
+argument-back a = rw (name-back (a .name), value-back (a .value))
+
+arguments-back : (xs : Arguments) (t : Token) → unArguments (cat (argumentsCst xs) (some (tok t) none)) ≡ xs
+arguments-back (oneArgument a) t = ap oneArgument (argument-back a)
+arguments-back (moreArguments a (oneArgument b)) t = ap₂ moreArguments (argument-back a) (arguments-back (oneArgument b) t)
+arguments-back (moreArguments a (moreArguments b xs)) t = ap₂ moreArguments (argument-back a) (arguments-back (moreArguments b xs) t)
+
+-- arguments, or none, and then none
+arguments-here : (xs : OptArguments) (ys : Csts) → Lacks 18 ys → argumentsIn (cat (optArgumentsCst xs) ys) ≡ xs
+arguments-here noArguments ys h = find-lacks 18 unOptArguments noArguments ys h
+arguments-here (arguments l xs r) ys h = ap₂ (arguments l) (arguments-back xs (of parenR r)) (last-back (argumentsCst xs) (of parenR r))
+
+abbrev unDirective : Cst → Directive
+unDirective (tok t) = record { atAt = noSpan; name = firstName none; args = noArguments }
+unDirective (nod n p x xs) = record { atAt = spanAt x; name = firstName xs; args = argumentsIn xs }
+
+abbrev unDirectives : Csts → Directives
+unDirectives none = oneDirective (unDirective (tok (of 0 noSpan)))
+unDirectives (some x xs) = pick (headNode xs) (moreDirectives (unDirective x) (unDirectives xs)) (oneDirective (unDirective x))
+
+abbrev unOptDirectives : Cst → OptDirectives
+unOptDirectives (tok t) = noDirectives
+unOptDirectives (nod n p x xs) = directives (pick (headNode xs) (moreDirectives (unDirective x) (unDirectives xs)) (oneDirective (unDirective x)))
+
+abbrev directivesIn : Csts → OptDirectives
+directivesIn xs = find 20 unOptDirectives noDirectives xs
+
+append-none : (xs : Csts) → cat xs none ≡ xs
+append-none none = refl
+append-none (some x xs) = ap (some x) (append-none xs)
+
+directive-back : (d : Directive) → unDirective (directiveCst d) ≡ d
+directive-back d =
+    let e : argumentsIn (optArgumentsCst (d .args)) ≡ d .args = ap argumentsIn (sym (append-none (optArgumentsCst (d .args)))) ∙ arguments-here (d .args) none tt in
+    rw (name-back (d .name), e)
+
+directives-back : (ds : Directives) → unDirectives (directivesCst ds) ≡ ds
+directives-back (oneDirective d) = ap oneDirective (directive-back d)
+directives-back (moreDirectives d (oneDirective e)) = ap₂ moreDirectives (directive-back d) (directives-back (oneDirective e))
+directives-back (moreDirectives d (moreDirectives e ds)) = ap₂ moreDirectives (directive-back d) (directives-back (moreDirectives e ds))
+
+head-directives : (ds : Directives) → headNode (directivesCst ds) ≡ true
+head-directives (oneDirective d) = refl
+head-directives (moreDirectives d ds) = refl
+
+-- directives, or none, and then none
+directives-here : (ds : OptDirectives) (ys : Csts) → Lacks 20 ys → directivesIn (cat (optDirectivesCst ds) ys) ≡ ds
+directives-here noDirectives ys h = find-lacks 20 unOptDirectives noDirectives ys h
+directives-here (directives (oneDirective d)) ys h = ap (λ (e : Directive). directives (oneDirective e)) (directive-back d)
+directives-here (directives (moreDirectives d ds)) ys h =
+    rw (head-directives ds) (ap₂ (λ (e : Directive) (es : Directives). directives (moreDirectives e es)) (directive-back d) (directives-back ds))
+
+abbrev unCondition : Cst → OptCondition
+unCondition (tok t) = noCondition
+unCondition (nod n p x xs) = condition (spanAt x) (firstName xs)
+
+abbrev conditionIn : Csts → OptCondition
+conditionIn xs = find 25 unCondition noCondition xs
+
+condition-here : (k : OptCondition) (ys : Csts) → Lacks 25 ys → conditionIn (cat (conditionCst k) ys) ≡ k
+condition-here noCondition ys h = find-lacks 25 unCondition noCondition ys h
+condition-here (condition o n) ys h = ap (condition o) (name-back n)
+
+abbrev fragmentAt : ℕ → FragmentWord
+fragmentAt k = pick (eqb k wordTrue) FragmentWord.isTrue (pick (eqb k wordFalse) FragmentWord.isFalse (pick (eqb k wordNull) FragmentWord.isNull FragmentWord.other))
+
+fragment-back : (w : FragmentWord) → fragmentAt (fragmentKind w) ≡ w
+fragment-back FragmentWord.other = refl
+fragment-back FragmentWord.isTrue = refl
+fragment-back FragmentWord.isFalse = refl
+fragment-back FragmentWord.isNull = refl
+
+abbrev firstKind : Csts → ℕ
+firstKind none = 0
+firstKind (some x xs) = kindAt x
+
+-- an alias's `:`
+abbrev colonOf : Cst → Span
+colonOf (tok t) = noSpan
+colonOf (nod n p x xs) = firstSpan xs
+
+abbrev noSet : SelectionSet
+noSet = selectionSet noSpan (oneSelection (fragmentSpread noSpan FragmentWord.other noSpan noDirectives)) noSpan
+
+abbrev setOr : OptSelectionSet → SelectionSet
+setOr noSelectionSet = noSet
+setOr (someSelectionSet s) = s
+
+abbrev mutual
+  unSet : Cst → SelectionSet
+  unSet (tok t) = noSet
+  unSet (nod n p x xs) = selectionSet (spanAt x) (unSelections xs) (lastSpan xs)
+
+  unSelections : Csts → Selections
+  unSelections none = oneSelection (fragmentSpread noSpan FragmentWord.other noSpan noDirectives)
+  unSelections (some x xs) = pick (headNode xs) (moreSelections (unSelection x) (unSelections xs)) (oneSelection (unSelection x))
+
+  unSelection : Cst → Selection
+  unSelection (tok t) = fragmentSpread noSpan FragmentWord.other noSpan noDirectives
+  unSelection (nod n p x xs) =
+      pick (eqb n 22) (fragmentSpread (spanAt x) (fragmentAt (firstKind xs)) (firstSpan xs) (directivesIn xs))
+      (pick (eqb n 24) (inlineFragment (spanAt x) (conditionIn xs) (directivesIn xs) (setOr (setIn xs)))
+      (pick (codeIs 17 x) (field (alias (nameAt x) (colonOf x)) (firstName xs) (argumentsIn xs) (directivesIn xs) (setIn xs))
+      (field noAlias (nameAt x) (argumentsIn xs) (directivesIn xs) (setIn xs))))
+
+  setIn : Csts → OptSelectionSet
+  setIn none = noSelectionSet
+  setIn (some x xs) = pick (codeIs 15 x) (someSelectionSet (unSet x)) (setIn xs)
+
+setIn-skip : (xs ys : Csts) → Lacks 15 xs → setIn (cat xs ys) ≡ setIn ys
+setIn-skip none ys h = refl
+setIn-skip (some x xs) ys h = rw (h .0) (setIn-skip xs ys (h .1))
