@@ -419,3 +419,85 @@ abbrev mutual
 setIn-skip : (xs ys : Csts) → Lacks 15 xs → setIn (cat xs ys) ≡ setIn ys
 setIn-skip none ys h = refl
 setIn-skip (some x xs) ys h = rw (h .0) (setIn-skip xs ys (h .1))
+
+selection-node : (x : Selection) → isNode (selectionCst x) ≡ true
+selection-node (field noAlias n xs ds s) = refl
+selection-node (field (alias m k) n xs ds s) = refl
+selection-node (fragmentSpread d w n ds) = refl
+selection-node (inlineFragment d k ds s) = refl
+
+head-selections : (ss : Selections) (ys : Csts) → headNode (cat (selectionsCst ss) ys) ≡ true
+head-selections (oneSelection x) ys = selection-node x
+head-selections (moreSelections x ss) ys = selection-node x
+
+set-code : (s : SelectionSet) → codeIs 15 (setCst s) ≡ true
+set-code (selectionSet l ss r) = refl
+
+-- the parts that may follow a field's name
+abbrev tailCst : OptArguments → OptDirectives → OptSelectionSet → Csts
+tailCst xs ds s = cat (optArgumentsCst xs) (cat (optDirectivesCst ds) (optSetCst s))
+
+tail-arguments : (xs : OptArguments) (ds : OptDirectives) (s : OptSelectionSet) → argumentsIn (tailCst xs ds s) ≡ xs
+tail-arguments xs ds s =
+    arguments-here xs (cat (optDirectivesCst ds) (optSetCst s)) (lacks-cat 18 (optDirectivesCst ds) (optSetCst s) (lacks-directives 18 ds refl) (lacks-optSet 18 s refl))
+
+tail-directives : (xs : OptArguments) (ds : OptDirectives) (s : OptSelectionSet) → directivesIn (tailCst xs ds s) ≡ ds
+tail-directives xs ds s =
+    find-skip 20 unOptDirectives noDirectives (optArgumentsCst xs) (cat (optDirectivesCst ds) (optSetCst s)) (lacks-arguments 20 xs refl) ∙ directives-here ds (optSetCst s) (lacks-optSet 20 s refl)
+
+tail-set : (xs : OptArguments) (ds : OptDirectives) (s : OptSelectionSet) → setIn (tailCst xs ds s) ≡ setIn (optSetCst s)
+tail-set xs ds s =
+    setIn-skip (optArgumentsCst xs) (cat (optDirectivesCst ds) (optSetCst s)) (lacks-arguments 15 xs refl) ∙ setIn-skip (optDirectivesCst ds) (optSetCst s) (lacks-directives 15 ds refl)
+
+-- the parts of an inline fragment
+abbrev inlineCst : OptCondition → OptDirectives → SelectionSet → Csts
+inlineCst k ds s = cat (conditionCst k) (cat (optDirectivesCst ds) (some (setCst s) none))
+
+inline-condition : (k : OptCondition) (ds : OptDirectives) (s : SelectionSet) → conditionIn (inlineCst k ds s) ≡ k
+inline-condition k ds s =
+    condition-here k (cat (optDirectivesCst ds) (some (setCst s) none)) (lacks-cat 25 (optDirectivesCst ds) (some (setCst s) none) (lacks-directives 25 ds refl) (lacks-set 25 s refl))
+
+inline-directives : (k : OptCondition) (ds : OptDirectives) (s : SelectionSet) → directivesIn (inlineCst k ds s) ≡ ds
+inline-directives k ds s =
+    find-skip 20 unOptDirectives noDirectives (conditionCst k) (cat (optDirectivesCst ds) (some (setCst s) none)) (lacks-condition 20 k refl)
+    ∙ directives-here ds (some (setCst s) none) (lacks-set 20 s refl)
+
+inline-set : (k : OptCondition) (ds : OptDirectives) (s : SelectionSet) → setIn (inlineCst k ds s) ≡ someSelectionSet (unSet (setCst s))
+inline-set k ds s =
+    setIn-skip (conditionCst k) (cat (optDirectivesCst ds) (some (setCst s) none)) (lacks-condition 15 k refl)
+    ∙ setIn-skip (optDirectivesCst ds) (some (setCst s) none) (lacks-directives 15 ds refl)
+    ∙ rw (set-code s)
+
+mutual
+  -- a selection set can be had back from its tree
+  pub set-back : (s : SelectionSet) → unSet (setCst s) ≡ s
+  set-back (selectionSet l ss r) = ap₂ (selectionSet l) (selections-back ss (of braceR r)) (last-back (selectionsCst ss) (of braceR r))
+
+  selections-back : (ss : Selections) (t : Token) → unSelections (cat (selectionsCst ss) (some (tok t) none)) ≡ ss
+  selections-back (oneSelection x) t = ap oneSelection (selection-back x)
+  selections-back (moreSelections x ss) t = rw (head-selections ss (some (tok t) none)) (ap₂ moreSelections (selection-back x) (selections-back ss t))
+
+  selection-back : (x : Selection) → unSelection (selectionCst x) ≡ x
+  selection-back (field noAlias n xs ds s) = rw (name-back n, tail-arguments xs ds s, tail-directives xs ds s, tail-set xs ds s) (ap (field noAlias n xs ds) (optSet-back s))
+  selection-back (field (alias m k) n xs ds s) =
+      rw (name-back m, name-back n, tail-arguments xs ds s, tail-directives xs ds s, tail-set xs ds s) (ap (field (alias m k) n xs ds) (optSet-back s))
+  selection-back (fragmentSpread d w n ds) =
+      let e : directivesIn (optDirectivesCst ds) ≡ ds = ap directivesIn (sym (append-none (optDirectivesCst ds))) ∙ directives-here ds none tt in
+      rw (fragment-back w, e)
+  selection-back (inlineFragment d k ds s) =
+      rw (inline-condition k ds s, inline-directives k ds s, inline-set k ds s) (ap (inlineFragment d k ds) (set-back s))
+
+  optSet-back : (s : OptSelectionSet) → setIn (optSetCst s) ≡ s
+  optSet-back noSelectionSet = refl
+  optSet-back (someSelectionSet s) = rw (set-code s) (ap someSelectionSet (set-back s))
+
+-- ---- the same tokens and events
+
+pub same-value : {c : Bool} (v u : Value c) → valueCst v ≡ valueCst u → v ≡ u
+same-value {c} v u e = sym (value-back v) ∙ ap (unValue c) e ∙ value-back u
+
+pub same-ty : (t u : Ty) → tyCst t ≡ tyCst u → t ≡ u
+same-ty t u e = sym (ty-back t) ∙ ap unTy e ∙ ty-back u
+
+pub same-set : (s r : SelectionSet) → setCst s ≡ setCst r → s ≡ r
+same-set s r e = sym (set-back s) ∙ ap unSet e ∙ set-back r
