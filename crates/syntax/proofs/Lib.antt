@@ -17,3 +17,4 @@ pub mod Depth
 pub mod Cst
 pub mod Nest
 pub mod Unique
+pub mod OneReading

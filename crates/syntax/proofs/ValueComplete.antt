@@ -119,12 +119,15 @@ pub eof-read : (c : Bool) (l : ℕ) (e : Token) (ts : List Token) → e .kind �
 unfolding run step
 eof-read c l e ts k = rw k
 
--- a value within the limit, then Eof, is accepted, with the value's events
-pub value-complete : (d : ℕ) (v : Value false) (e : Token) (ts : List Token) → valueDepth v ≤ d → e .kind ≡ eof → readValue d (valueTokens v ++ (e ∷ ts)) ≡ accepted (valueEvents v)
-value-complete d v e ts h k =
-    value-read v d [] 0 (e ∷ ts) h ∙ ap (emits (valueEvents v)) (eof-read false (lastEnd (valueTokens v)) e ts k) ∙ ap accepted (append-nil (valueEvents v))
+-- a value of either constness within the limit, then Eof, is accepted, with the value's events
+pub value-accepted : {c : Bool} (d : ℕ) (v : Value c) (e : Token) (ts : List Token) → valueDepth v ≤ d → e .kind ≡ eof → run c (value d ∷ []) 0 (valueTokens v ++ (e ∷ ts)) ≡ accepted (valueEvents v)
+value-accepted {c} d v e ts h k =
+    value-read v d [] 0 (e ∷ ts) h ∙ ap (emits (valueEvents v)) (eof-read c (lastEnd (valueTokens v)) e ts k) ∙ ap accepted (append-nil (valueEvents v))
 
--- so is a constant value
+-- a value
+pub value-complete : (d : ℕ) (v : Value false) (e : Token) (ts : List Token) → valueDepth v ≤ d → e .kind ≡ eof → readValue d (valueTokens v ++ (e ∷ ts)) ≡ accepted (valueEvents v)
+value-complete d v e ts h k = value-accepted d v e ts h k
+
+-- a constant value
 pub constant-complete : (d : ℕ) (v : Value true) (e : Token) (ts : List Token) → valueDepth v ≤ d → e .kind ≡ eof → readConstant d (valueTokens v ++ (e ∷ ts)) ≡ accepted (valueEvents v)
-constant-complete d v e ts h k =
-    value-read v d [] 0 (e ∷ ts) h ∙ ap (emits (valueEvents v)) (eof-read true (lastEnd (valueTokens v)) e ts k) ∙ ap accepted (append-nil (valueEvents v))
+constant-complete d v e ts h k = value-accepted d v e ts h k
