@@ -253,13 +253,17 @@ raise P f (suc k) d h = let e = raise P f k d h in rw (add-suc d k) (f (d + k) (
 raised : (P : ℕ → Read) → ((d : ℕ) → NotSeven (P d) → P (suc d) ≡ P d) → (d d′ : ℕ) → d ≤ d′ → NotSeven (P d) → P d′ ≡ P d
 raised P f d d′ h n = let e : d′ ≡ d + (d′ - d) = omega arith in ap P e ∙ raise P f (d′ - d) d n
 
--- a larger limit changes no answer other than 7: values
+-- a larger limit changes no answer other than 7: values of either constness
+pub value-raised : (c : Bool) (d d′ : ℕ) (ts : List Token) → d ≤ d′ → NotSeven (run c (value d ∷ []) 0 ts) → run c (value d′ ∷ []) 0 ts ≡ run c (value d ∷ []) 0 ts
+value-raised c d d′ ts h n = raised (λ (r : ℕ). run c (value r ∷ []) 0 ts) (λ r k. lifted-run c ts (value r ∷ []) 0 k) d d′ h n
+
+-- values
 pub readValue-raised : (d d′ : ℕ) (ts : List Token) → d ≤ d′ → NotSeven (readValue d ts) → readValue d′ ts ≡ readValue d ts
-readValue-raised d d′ ts h n = raised (λ (r : ℕ). readValue r ts) (λ r k. lifted-run false ts (value r ∷ []) 0 k) d d′ h n
+readValue-raised d d′ ts h n = value-raised false d d′ ts h n
 
 -- constants
 pub readConstant-raised : (d d′ : ℕ) (ts : List Token) → d ≤ d′ → NotSeven (readConstant d ts) → readConstant d′ ts ≡ readConstant d ts
-readConstant-raised d d′ ts h n = raised (λ (r : ℕ). readConstant r ts) (λ r k. lifted-run true ts (value r ∷ []) 0 k) d d′ h n
+readConstant-raised d d′ ts h n = value-raised true d d′ ts h n
 
 -- selection sets
 pub readSelectionSet-raised : (d d′ : ℕ) (ts : List Token) → d ≤ d′ → NotSeven (readSelectionSet d ts) → readSelectionSet d′ ts ≡ readSelectionSet d ts

@@ -18,3 +18,4 @@ pub mod Cst
 pub mod Nest
 pub mod Unique
 pub mod OneReading
+pub mod Refusals
