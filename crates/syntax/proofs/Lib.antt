@@ -19,3 +19,4 @@ pub mod Nest
 pub mod Unique
 pub mod OneReading
 pub mod Refusals
+pub mod TypeRefusals

@@ -466,3 +466,29 @@ eight-value {c} {d} r s =
     let w = r .begins (y .0) in
     (x .constant, x .sign,
     begins-value c (suc d) (r .before ++ (of int s ∷ [])) (y .1) (w .0) (w .1 ∙ ap (λ (us : List Token). r .before ++ us) (y .2) ∙ sym (append-assoc (r .before) (of int s ∷ []) (y .1))))
+
+-- ---- the numbers
+
+-- a step refuses with 7, 8 or 9 alone
+pub refusal-number : {c : Bool} {K : List Sym} {l n p : ℕ} {ts : List Token} (r : Refusal c K l ts n p) → (n ≡ 7) ⊎ ((n ≡ 8) ⊎ (n ≡ 9))
+refusal-number {c} r = by-lifted (lifted c (r .end) (r .due) (r .here)) (r .stops)
+  where
+    by-lifted : {n : ℕ} {m m′ : Move} → Lifted m m′ → m ≡ stop n → (n ≡ 7) ⊎ ((n ≡ 8) ⊎ (n ≡ 9))
+    by-lifted (goes es K) e = absurd (let z : _≡_ {A = ℕ} 0 1 = cc in omega arith)
+    by-lifted (halts es) e = absurd (let z : _≡_ {A = ℕ} 0 1 = cc in omega arith)
+    by-lifted {n} (stays k h) e = let q : k ≡ n = cc in inr (rw q at h)
+    by-lifted {n} (past m h) e = let q : 7 ≡ n = cc in inl (sym q)
+
+-- 8 is for constants alone
+pub no-eight : {K : List Sym} {l p : ℕ} {ts : List Token} (r : Refusal false K l ts 8 p) → ⊥
+no-eight r = let x = dollar-of (eight false (r .end) (r .due) (r .here)) (r .stops) .constant in let z : _≡_ {A = ℕ} 0 1 = cc in omega arith
+
+-- ---- the entries
+
+-- a refusal of a value of either constness
+pub value-refusal : (c : Bool) (d : ℕ) (ts : List Token) (n p : ℕ) → EndsEof ts → run c (value d ∷ []) 0 ts ≡ refused n p → Refusal c (value d ∷ []) 0 ts n p
+value-refusal c d ts n p h a = refusal c ts (value d ∷ []) 0 n p h a
+
+-- a refusal of a selection set
+pub set-refusal : (d : ℕ) (ts : List Token) (n p : ℕ) → EndsEof ts → readSelectionSet d ts ≡ refused n p → Refusal false (selectionSet d ∷ []) 0 ts n p
+set-refusal d ts n p h a = refusal false ts (selectionSet d ∷ []) 0 n p h a

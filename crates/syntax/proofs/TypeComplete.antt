@@ -42,11 +42,20 @@ bang-events b s =
     rw (base-start b (of bang s ∷ []), lastEnd-snoc (baseTokens b) (of bang s))
     (ap (λ (es : List Item). opens 14 (startOf (baseTokens b)) ∷ es) (append-assoc (baseEvents b) (tokenEvent (of bang s) ∷ []) (closes 14 (startOf (baseTokens b)) (endOf (of bang s)) ∷ [])))
 
+-- where a type without a `!` ends, no `!` follows
+abbrev pub Stops : Ty → List Token → Type 0
+Stops (nullable b) ts = Not bang ts
+Stops (nonNull b s) ts = Unit {0}
+
+pub stops : (t : Ty) (ts : List Token) → Not bang ts → Stops t ts
+stops (nullable b) ts n = n
+stops (nonNull b s) ts n = tt
+
 mutual
   unfolding typeAt withBang withBracket isName
 
-  -- a type's tokens, before anything but a `!`
-  pub type-read : (t : Ty) (r : ℕ) (ts : List Token) → tyDepth t ≤ r → Not bang ts → typeAt r (tyTokens t ++ ts) ≡ typed (tyEvents t) (lastEnd (tyTokens t)) ts
+  -- a type's tokens, before anything but a `!` that would belong to it
+  pub type-read : (t : Ty) (r : ℕ) (ts : List Token) → tyDepth t ≤ r → Stops t ts → typeAt r (tyTokens t ++ ts) ≡ typed (tyEvents t) (lastEnd (tyTokens t)) ts
   type-read (nullable b) r ts h n = base-read b r ts h ∙ no-bang (startOf (baseTokens b)) (baseEvents b) (lastEnd (baseTokens b)) ts n
   type-read (nonNull b s) r ts h n =
       rw (append-assoc (baseTokens b) (of bang s ∷ []) ts)
@@ -60,11 +69,11 @@ mutual
   base-read (listType l t e) zero ts h = absurd (omega arith)
   base-read (listType l t e) (suc r) ts h =
       rw (append-assoc (tyTokens t) (of bracketR e ∷ []) ts)
-      (ap (withBracket (of bracketL l)) (type-read t r (of bracketR e ∷ ts) (omega arith) refl)
+      (ap (withBracket (of bracketL l)) (type-read t r (of bracketR e ∷ ts) (omega arith) (stops t (of bracketR e ∷ ts) refl))
       ∙ ap₂ (λ (es : List Item) (n : ℕ). withBang (l .start) es n ts) (sym (node-bracketed 13 (of bracketL l) (of bracketR e) (tyTokens t) (tyEvents t)))
       (sym (lastEnd-snoc (of bracketL l ∷ tyTokens t) (of bracketR e))))
 
 -- a type within the limit, then Eof, is accepted, with the type's events
 pub type-complete : (d : ℕ) (t : Ty) (e : Token) (ts : List Token) → tyDepth t ≤ d → e .kind ≡ eof → readType d (tyTokens t ++ (e ∷ ts)) ≡ accepted (tyEvents t)
 unfolding wholeType
-type-complete d t e ts h k = ap wholeType (type-read t d (e ∷ ts) h (rw k)) ∙ rw k
+type-complete d t e ts h k = ap wholeType (type-read t d (e ∷ ts) h (stops t (e ∷ ts) (rw k))) ∙ rw k

@@ -16,7 +16,7 @@ use Rattle.syntax.specs.TypeReading.{TypeRead, typed, untyped, withBang,
 use Rattle.syntax.proofs.Steps.{lastEnd-snoc, node-bracketed}
 use Rattle.syntax.proofs.Back.{is-kind, is-name}
 use Rattle.syntax.proofs.Sound.{NoEof, split-eof}
-use Rattle.syntax.proofs.TypeComplete.{bang-events}
+use Rattle.syntax.proofs.TypeComplete.{Stops, bang-events}
 
 -- ts is a type's tokens and the rest; es are its events, and e is its end
 pub record ReadsType (r : ℕ) (ts : List Token) (es : List Item) (e : ℕ) (rest : List Token) : Type 0 where
@@ -25,11 +25,14 @@ pub record ReadsType (r : ℕ) (ts : List Token) (es : List Item) (e : ℕ) (res
   pub tokens : ts ≡ tyTokens tree ++ rest
   pub events : es ≡ tyEvents tree
   pub end : e ≡ lastEnd (tyTokens tree)
+  pub ended : Stops tree rest
 
 bang-sound : (b : Base) (r : ℕ) (us ts : List Token) (es : List Item) (e : ℕ) (rest : List Token) → baseDepth b ≤ r → us ≡ baseTokens b ++ ts
     → withBang (startOf (baseTokens b)) (baseEvents b) (lastEnd (baseTokens b)) ts ≡ typed es e rest → ReadsType r us es e rest
 unfolding withBang
-bang-sound b r us [] es e rest h q a = record { tree = nullable b; deep = h; tokens = cc; events = cc; end = cc }
+bang-sound b r us [] es e rest h q a =
+    let i : [] ≡ rest = cc in
+    record { tree = nullable b; deep = h; tokens = cc; events = cc; end = cc; ended = rw (← i) tt }
 bang-sound b r us (t ∷ ts) es e rest h q a = by-bang (eqb (t .kind) bang) refl a
   where
     by-bang : (x : Bool) → eqb (t .kind) bang ≡ x
@@ -48,8 +51,11 @@ bang-sound b r us (t ∷ ts) es e rest h q a = by-bang (eqb (t .kind) bang) refl
               sym f ∙ ap (λ (u : Token). opens 14 (startOf (baseTokens b)) ∷ (baseEvents b ++ (tokenEvent u ∷ closes 14 (startOf (baseTokens b)) (endOf u) ∷ []))) (w .1)
               ∙ sym (bang-events b (w .0));
           end = sym g ∙ ap endOf (w .1) ∙ sym (lastEnd-snoc (baseTokens b) (of bang (w .0)));
+          ended = tt;
         }
-    by-bang false k a = record { tree = nullable b; deep = h; tokens = cc; events = cc; end = cc }
+    by-bang false k a =
+        let i : t ∷ ts ≡ rest = cc in
+        record { tree = nullable b; deep = h; tokens = cc; events = cc; end = cc; ended = rw (← i) k }
 
 -- a name, and perhaps a `!`
 name-sound : (r : ℕ) (t : Token) (ts : List Token) (es : List Item) (e : ℕ) (rest : List Token) → isName (t .kind) ≡ true
