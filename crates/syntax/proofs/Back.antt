@@ -1,19 +1,19 @@
 -- One step back: from trees of what is due after a token, trees of what was due before it. Assumes nothing.
-use Prim.Native.Nat.{ℕ, zero, suc, _≤_}
+use Prim.Native.Nat.{ℕ, zero, suc}
 use native.Mathlib.Omega.{arith}
-use mathlib.Core.Path.{_≡_, refl, sym, ap, ap₂, _∙_}
+use mathlib.Core.Path.{_≡_, refl, sym, ap, _∙_}
 use mathlib.Core.Bool.{Bool, true, false}
-use mathlib.Core.List.{List, [], _∷_, _++_, append-assoc, append-nil}
+use mathlib.Core.List.{List, [], _∷_, _++_, append-assoc}
 use lib.Dec.{eqb}
 use borrow.Author.Tests.{eqb-true, eqb-false}
 use Rattle.base.specs.Text.{pick, from}
 use Rattle.base.specs.Item.{Item}
 use Rattle.base.proofs.Tests.{by, or-true, from-true}
-use Rattle.syntax.specs.Token.{eof, dollar, parenL, parenR, dots, colon, at, bracketL, bracketR, braceL, braceR, plain, string, int, float, wordTrue, wordFalse, wordNull, wordOn, isName, isEnum, isFragmentName, Token, token, endOf, tokenEvent, opens, closes, leaf, nameEvents}
-use Rattle.syntax.specs.Grammar.{Span, of, Word, kindOf, Name, nameToken, EnumWord, enumKind, FragmentWord, fragmentKind, lastEnd, node, Value, variable, intValue, floatValue, stringValue, trueValue, falseValue, nullValue, enumValue, listValue, objectValue, Values, noValue, aValue as anItem, Fields, noField, aField, valueTokens, valuesTokens, fieldsTokens, valueEvents, valuesEvents, fieldsEvents, valueDepth, valuesDepth, fieldsDepth}
-use Rattle.syntax.specs.Machine.{Sym, value, deeper, items, fields, name, colonDue, close, Move, go, stop, halt, also, atValue, atDeeper, atItems, atFields, atName, atColon, step}
-use Rattle.syntax.proofs.Steps.{endAfter, endAfter-append, endAfter-last, join-first, end-join, node-bracketed}
-use Rattle.syntax.proofs.Forms.{Form, aValue, aDeeper, anItems, aFields, aName, aColon, aClose, formTokens, formEvents, Forms, none, form, tokensOf, eventsOf}
+use Rattle.syntax.specs.Token.{eof, dollar, colon, at, bracketL, bracketR, braceL, braceR, plain, string, int, float, wordTrue, wordFalse, wordNull, wordOn, isName, isEnum, isFragmentName, Token, token, endOf, tokenEvent, opens, closes, leaf, nameEvents}
+use Rattle.syntax.specs.Grammar.{Span, of, Word, kindOf, Name, nameToken, EnumWord, enumKind, FragmentWord, fragmentKind, lastEnd, variable, intValue, floatValue, stringValue, trueValue, falseValue, nullValue, enumValue, listValue, objectValue, noValue, aValue as anItem, noField, aField, valueTokens, valuesTokens, fieldsTokens, valueEvents, valuesEvents, fieldsEvents}
+use Rattle.syntax.specs.Machine.{Sym, value, deeper, items, fields, name, colonDue, close, Move, go, stop, halt, also, atValue, atDeeper, atItems, atFields, step}
+use Rattle.syntax.proofs.Steps.{endAfter, endAfter-last, join-first, end-join, node-bracketed}
+use Rattle.syntax.proofs.Forms.{aValue, aDeeper, anItems, aFields, aName, aColon, aClose, Forms, form, tokensOf, eventsOf}
 
 -- ---- what a token's kind says of it
 
@@ -115,14 +115,18 @@ take-variable : {l r : ℕ} {P : List Sym} (a : Span) → Taken false l (value r
 take-variable {r = r} a (form (aName n) (form aClose F)) = (form (aValue {r = r} (variable a n) (omega arith)) F, refl, refl)
 
 take-list : {c : Bool} {l r : ℕ} {P : List Sym} (a : Span) → Taken c l (value r ∷ P) (of bracketL a) (opens 8 (a .start) ∷ tokenEvent (of bracketL a) ∷ []) (items r (a .start) ∷ P)
-take-list a (form (anItems vs b h) F) =
-    (form (aValue (listValue a vs b) h) F, refl,
-    ap (λ (es : List Item). es ++ eventsOf (endAfter (endOf (of bracketL a)) (valuesTokens vs ++ (of bracketR b ∷ []))) F) (node-bracketed 8 (of bracketL a) (of bracketR b) (valuesTokens vs) (valuesEvents vs)))
+take-list a (form (anItems vs b h) F) = (
+  form (aValue (listValue a vs b) h) F,
+  refl,
+  ap (λ (es : List Item). es ++ eventsOf (endAfter (endOf (of bracketL a)) (valuesTokens vs ++ (of bracketR b ∷ []))) F) (node-bracketed 8 (of bracketL a) (of bracketR b) (valuesTokens vs) (valuesEvents vs)),
+)
 
 take-object : {c : Bool} {l r : ℕ} {P : List Sym} (a : Span) → Taken c l (value r ∷ P) (of braceL a) (opens 9 (a .start) ∷ tokenEvent (of braceL a) ∷ []) (fields r (a .start) ∷ P)
-take-object a (form (aFields fs b h) F) =
-    (form (aValue (objectValue a fs b) h) F, refl,
-    ap (λ (es : List Item). es ++ eventsOf (endAfter (endOf (of braceL a)) (fieldsTokens fs ++ (of braceR b ∷ []))) F) (node-bracketed 9 (of braceL a) (of braceR b) (fieldsTokens fs) (fieldsEvents fs)))
+take-object a (form (aFields fs b h) F) = (
+  form (aValue (objectValue a fs b) h) F,
+  refl,
+  ap (λ (es : List Item). es ++ eventsOf (endAfter (endOf (of braceL a)) (fieldsTokens fs ++ (of braceR b ∷ []))) F) (node-bracketed 9 (of braceL a) (of braceR b) (fieldsTokens fs) (fieldsEvents fs)),
+)
 
 on-dollar : {l : ℕ} {t : Token} (c : Bool) (r : ℕ) (P K : List Sym)
     → Back c l t (value r ∷ P) K (pick (eqb (t .kind) dollar) (pick c (stop 8) (go (opens 11 (t .start) ∷ tokenEvent t ∷ []) (name ∷ close 11 (t .start) ∷ (P ++ K)))) (stop 9))
@@ -159,9 +163,11 @@ item-join es fs gs F l us vs ws =
     join-first es fs gs (eventsOf (endAfter l ((us ++ vs) ++ ws)) F) ∙ ap (λ (e : ℕ). es ++ ((fs ++ gs) ++ eventsOf e F)) (end-join l us vs ws)
 
 deeper-items : {c : Bool} {l r s : ℕ} {P : List Sym} → Turns c l (items r s ∷ P) [] (deeper r ∷ items r s ∷ P)
-deeper-items {l = l} {r = r} {s = s} (form (aDeeper v h) (form (anItems vs b i) F)) =
-    (form (anItems {r = r} (anItem v vs) b (omega arith)) F, join-first (valueTokens v) (valuesTokens vs) (of bracketR b ∷ []) (tokensOf F),
-    item-join (valueEvents v) (valuesEvents vs) (tokenEvent (of bracketR b) ∷ closes 8 s (endOf (of bracketR b)) ∷ []) F l (valueTokens v) (valuesTokens vs) (of bracketR b ∷ []))
+deeper-items {l = l} {r = r} {s = s} (form (aDeeper v h) (form (anItems vs b i) F)) = (
+  form (anItems {r = r} (anItem v vs) b (omega arith)) F,
+  join-first (valueTokens v) (valuesTokens vs) (of bracketR b ∷ []) (tokensOf F),
+  item-join (valueEvents v) (valuesEvents vs) (tokenEvent (of bracketR b) ∷ closes 8 s (endOf (of bracketR b)) ∷ []) F l (valueTokens v) (valuesTokens vs) (of bracketR b ∷ []),
+)
 
 -- a list's further items or its `]`
 pub on-items : {l : ℕ} {t : Token} (c : Bool) (r s : ℕ) (P K : List Sym) → Back c l t (items r s ∷ P) K (atItems c r s (P ++ K) t)
@@ -181,11 +187,12 @@ node-join es fs gs F n s t us vs ws =
 
 take-field : {c : Bool} {l r s : ℕ} {P : List Sym} (n : Name)
     → Taken c l (fields r s ∷ P) (nameToken n) (opens 10 (n .span .start) ∷ nameEvents (nameToken n)) (colonDue ∷ deeper r ∷ close 10 (n .span .start) ∷ fields r s ∷ P)
-take-field {r = r} {s = s} n (form (aColon k) (form (aDeeper v h) (form aClose (form (aFields fs b i) F)))) =
-    (form (aFields {r = r} (aField n k v fs) b (omega arith)) F,
-    ap (λ (us : List Token). nameToken n ∷ of colon k ∷ us) (join-first (valueTokens v) (fieldsTokens fs) (of braceR b ∷ []) (tokensOf F)),
-    ap (λ (es : List Item). opens 10 (n .span .start) ∷ (nameEvents (nameToken n) ++ (tokenEvent (of colon k) ∷ es)))
-    (node-join (valueEvents v) (fieldsEvents fs) (tokenEvent (of braceR b) ∷ closes 9 s (endOf (of braceR b)) ∷ []) F 10 (n .span .start) (of colon k) (valueTokens v) (fieldsTokens fs) (of braceR b ∷ [])))
+take-field {r = r} {s = s} n (form (aColon k) (form (aDeeper v h) (form aClose (form (aFields fs b i) F)))) = (
+  form (aFields {r = r} (aField n k v fs) b (omega arith)) F,
+  ap (λ (us : List Token). nameToken n ∷ of colon k ∷ us) (join-first (valueTokens v) (fieldsTokens fs) (of braceR b ∷ []) (tokensOf F)),
+  ap (λ (es : List Item). opens 10 (n .span .start) ∷ (nameEvents (nameToken n) ++ (tokenEvent (of colon k) ∷ es)))
+      (node-join (valueEvents v) (fieldsEvents fs) (tokenEvent (of braceR b) ∷ closes 9 s (endOf (of braceR b)) ∷ []) F 10 (n .span .start) (of colon k) (valueTokens v) (fieldsTokens fs) (of braceR b ∷ [])),
+)
 
 -- an object's further fields or its `}`
 pub on-fields : {l : ℕ} {t : Token} (c : Bool) (r s : ℕ) (P K : List Sym) → Back c l t (fields r s ∷ P) K (atFields r s (P ++ K) t)

@@ -1,20 +1,20 @@
 -- One step back in selection sets, and over the whole stack. Assumes nothing.
-use Prim.Native.Nat.{ℕ, zero, suc, max, _≤_}
+use Prim.Native.Nat.{ℕ, zero, suc, _≤_}
 use native.Mathlib.Omega.{arith}
-use mathlib.Core.Path.{_≡_, refl, sym, ap, ap₂, _∙_}
+use mathlib.Core.Path.{_≡_, refl, sym, ap, _∙_}
 use mathlib.Core.Bool.{Bool, true, false}
 use mathlib.Core.List.{List, [], _∷_, _++_, append-assoc, append-nil}
 use lib.Dec.{eqb}
 use Rattle.base.specs.Text.{pick}
 use Rattle.base.specs.Item.{Item}
-use Rattle.syntax.specs.Token.{parenL, parenR, dots, colon, at, braceL, braceR, wordOn, isName, isFragmentName, Token, endOf, tokenEvent, opens, closes, nameEvents}
-use Rattle.syntax.specs.Grammar.{Span, of, Name, nameToken, FragmentWord, fragmentKind, startOf, lastEnd, node, valueTokens, valueEvents, valueDepth}
+use Rattle.syntax.specs.Token.{parenL, parenR, dots, colon, at, braceL, braceR, wordOn, isFragmentName, Token, endOf, tokenEvent, opens, closes, nameEvents}
+use Rattle.syntax.specs.Grammar.{Span, of, Name, nameToken, FragmentWord, fragmentKind, node, valueTokens, valueEvents, valueDepth}
 use Rattle.syntax.specs.Selections as trees
-use Rattle.syntax.specs.Selections.{Argument, Arguments, oneArgument, moreArguments, OptArguments, noArguments, Directive, Directives, oneDirective, moreDirectives, OptDirectives, noDirectives, OptCondition, noCondition, condition, noAlias, alias, SelectionSet, Selections, oneSelection, moreSelections, Selection, field, fragmentSpread, inlineFragment, OptSelectionSet, noSelectionSet, someSelectionSet, argumentTokens, argumentsTokens, optArgumentsTokens, directiveTokens, directivesTokens, optDirectivesTokens, conditionTokens, setTokens, selectionTokens, selectionsTokens, optSetTokens, argumentEvents, argumentsEvents, optArgumentsEvents, directiveEvents, directivesEvents, optDirectivesEvents, conditionEvents, setEvents, selectionEvents, selectionsEvents, optSetEvents, argumentsDepth, optArgumentsDepth, directivesDepth, optDirectivesDepth, setDepth, selectionDepth, selectionsDepth, optSetDepth}
-use Rattle.syntax.specs.Machine.{Sym, value, deeper, items, fields, name, colonDue, close, selectionSet, optSelectionSet, firstSelection, selections, named, spread, optArguments, firstArgument, arguments, optDirectives, directives, namedType, Move, go, stop, halt, also, atName, atColon, atNamedType, orSelectionSet, orSelection, atFirstSelection, atSelections, afterName, orArguments, orArgument, atArguments, orDirective, orDirectives, atSpread, step}
+use Rattle.syntax.specs.Selections.{Argument, Arguments, oneArgument, moreArguments, OptArguments, noArguments, Directive, Directives, oneDirective, moreDirectives, OptDirectives, noDirectives, OptCondition, noCondition, condition, noAlias, alias, SelectionSet, Selections, oneSelection, moreSelections, Selection, field, fragmentSpread, inlineFragment, noSelectionSet, someSelectionSet, argumentTokens, argumentsTokens, optArgumentsTokens, directiveTokens, directivesTokens, optDirectivesTokens, conditionTokens, setTokens, selectionTokens, selectionsTokens, optSetTokens, argumentEvents, argumentsEvents, optArgumentsEvents, directiveEvents, directivesEvents, optDirectivesEvents, conditionEvents, setEvents, selectionEvents, selectionsEvents, optSetEvents, argumentsDepth, optArgumentsDepth, directivesDepth, selectionDepth, selectionsDepth}
+use Rattle.syntax.specs.Machine.{Sym, value, deeper, items, fields, name, colonDue, close, selectionSet, optSelectionSet, firstSelection, selections, named, spread, optArguments, firstArgument, arguments, optDirectives, directives, namedType, Move, go, stop, also, atName, atColon, atNamedType, orSelectionSet, orSelection, atFirstSelection, atSelections, afterName, orArguments, orArgument, atArguments, orDirective, orDirectives, atSpread, step}
 use Rattle.syntax.proofs.Steps.{endAfter, endAfter-append, endAfter-last, join-first, join-last, end-last, node-bracketed}
 use Rattle.syntax.proofs.Loosen.{loosen, loosen-tokens, loosen-events, loosen-depth}
-use Rattle.syntax.proofs.Forms.{Further, noMore, more, further, Form, aValue, aName, aColon, aClose, aSet, anOptSet, aFirst, aSelections, aPlain, anAlias, aFragment, anInline, anOptArguments, aFirstArgument, anArguments, anOptDirectives, aDirectives, aType, tailTokens, tailEvents, formTokens, formEvents, Forms, none, form, tokensOf, eventsOf}
+use Rattle.syntax.proofs.Forms.{Further, noMore, more, further, Form, aValue, aName, aColon, aClose, aSet, anOptSet, aFirst, aSelections, aPlain, anAlias, aFragment, anInline, anOptArguments, aFirstArgument, anArguments, anOptDirectives, aDirectives, aType, tailTokens, formTokens, formEvents, Forms, none, form, tokensOf, eventsOf}
 use Rattle.syntax.proofs.Back.{is-kind, is-fragment, Taken, Back, takes, refuses, passes, also-none, Turns, turn, turned, test, on-kind, on-name, item-join, node-join, on-value, on-deeper, on-items, on-fields}
 
 -- ---- one more
@@ -70,9 +70,11 @@ consSelections-depth r s (more ss) g h = omega arith
 -- ---- arguments
 
 take-arguments : {c : Bool} {l r : ℕ} {P : List Sym} (a : Span) → Taken c l (optArguments r ∷ P) (of parenL a) (opens 18 (a .start) ∷ tokenEvent (of parenL a) ∷ []) (firstArgument r (a .start) ∷ P)
-take-arguments a (form (aFirstArgument xs b h) F) =
-    (form (anOptArguments (trees.arguments a xs b) h) F, refl,
-    ap (λ (es : List Item). es ++ eventsOf (endAfter (endOf (of parenL a)) (argumentsTokens xs ++ (of parenR b ∷ []))) F) (node-bracketed 18 (of parenL a) (of parenR b) (argumentsTokens xs) (argumentsEvents xs)))
+take-arguments a (form (aFirstArgument xs b h) F) = (
+  form (anOptArguments (trees.arguments a xs b) h) F,
+  refl,
+  ap (λ (es : List Item). es ++ eventsOf (endAfter (endOf (of parenL a)) (argumentsTokens xs ++ (of parenR b ∷ []))) F) (node-bracketed 18 (of parenL a) (of parenR b) (argumentsTokens xs) (argumentsEvents xs)),
+)
 
 -- arguments, or none
 on-optArguments : {c : Bool} {l : ℕ} {t : Token} (r : ℕ) (P K : List Sym) (m : Move) → Back c l t P K m → Back c l t (optArguments r ∷ P) K (orArguments r (P ++ K) t m)
@@ -84,13 +86,14 @@ on-optArguments r P K m b =
 take-argument : {c : Bool} {l r s : ℕ} {P : List Sym} (n : Name)
     → Taken c l (firstArgument r s ∷ P) (nameToken n) (opens 19 (n .span .start) ∷ nameEvents (nameToken n)) (colonDue ∷ value r ∷ close 19 (n .span .start) ∷ arguments r s ∷ P)
 take-argument {l = l} {r = r} {s = s} n (form (aColon k) (form (aValue v h) (form aClose (form (anArguments xs b i) F)))) =
-    let a : Argument = record { name = n; colonAt = k; value = loosen v } in
-    (form (aFirstArgument {r = r} (consArguments a xs) b (consArguments-depth r a xs (omega (arith, loosen-depth v)) i)) F,
-    rw (consArguments-tokens a xs, loosen-tokens v)
-    (ap (λ (us : List Token). nameToken n ∷ of colon k ∷ us) (join-first (valueTokens v) (further [] argumentsTokens xs) (of parenR b ∷ []) (tokensOf F))),
-    rw (consArguments-tokens a xs, consArguments-events a xs, loosen-tokens v, loosen-events v)
-    (ap (λ (es : List Item). opens 19 (n .span .start) ∷ (nameEvents (nameToken n) ++ (tokenEvent (of colon k) ∷ es)))
-    (node-join (valueEvents v) (further [] argumentsEvents xs) (tokenEvent (of parenR b) ∷ closes 18 s (endOf (of parenR b)) ∷ []) F 19 (n .span .start) (of colon k) (valueTokens v) (further [] argumentsTokens xs) (of parenR b ∷ []))))
+    let a : Argument = record { name = n; colonAt = k; value = loosen v } in (
+      form (aFirstArgument {r = r} (consArguments a xs) b (consArguments-depth r a xs (omega (arith, loosen-depth v)) i)) F,
+      rw (consArguments-tokens a xs, loosen-tokens v)
+          (ap (λ (us : List Token). nameToken n ∷ of colon k ∷ us) (join-first (valueTokens v) (further [] argumentsTokens xs) (of parenR b ∷ []) (tokensOf F))),
+      rw (consArguments-tokens a xs, consArguments-events a xs, loosen-tokens v, loosen-events v)
+          (ap (λ (es : List Item). opens 19 (n .span .start) ∷ (nameEvents (nameToken n) ++ (tokenEvent (of colon k) ∷ es)))
+          (node-join (valueEvents v) (further [] argumentsEvents xs) (tokenEvent (of parenR b) ∷ closes 18 s (endOf (of parenR b)) ∷ []) F 19 (n .span .start) (of colon k) (valueTokens v) (further [] argumentsTokens xs) (of parenR b ∷ []))),
+    )
 
 -- the first argument
 on-firstArgument : {c : Bool} {l : ℕ} {t : Token} (r s : ℕ) (P K : List Sym) → Back c l t (firstArgument r s ∷ P) K (orArgument r s (P ++ K) t (stop 9))
@@ -143,10 +146,11 @@ directive-tokens a n xs ds us =
 take-directive : {c : Bool} {l r s : ℕ} {P : List Sym} (a : Span)
     → Taken c l (directives r s ∷ P) (of at a) (opens 21 (a .start) ∷ tokenEvent (of at a) ∷ []) (name ∷ optArguments r ∷ close 21 (a .start) ∷ directives r s ∷ P)
 take-directive {l = l} {r = r} {s = s} a (form (aName n) (form (anOptArguments xs g) (form aClose (form (aDirectives ds h) F)))) =
-    let d : Directive = record { atAt = a; name = n; args = xs } in
-    (form (aDirectives {r = r} (more (consDirectives d ds)) (consDirectives-depth r d ds g h)) F,
-    directive-tokens a n xs ds (tokensOf F),
-    directive-join s l a n xs ds F)
+    let d : Directive = record { atAt = a; name = n; args = xs } in (
+      form (aDirectives {r = r} (more (consDirectives d ds)) (consDirectives-depth r d ds g h)) F,
+      directive-tokens a n xs ds (tokensOf F),
+      directive-join s l a n xs ds F,
+    )
 
 directives-node : (l : ℕ) (a : Span) (n : Name) (xs : OptArguments) (ds : Further Directives)
     → optDirectivesEvents (trees.directives (consDirectives (record { atAt = a; name = n; args = xs }) ds))
@@ -158,11 +162,12 @@ directives-node l a n xs (more ds) = rw (← endAfter-last l (of at a) (nameToke
 take-directives : {c : Bool} {l r : ℕ} {P : List Sym} (a : Span)
     → Taken c l (optDirectives r ∷ P) (of at a) (opens 20 (a .start) ∷ opens 21 (a .start) ∷ tokenEvent (of at a) ∷ []) (name ∷ optArguments r ∷ close 21 (a .start) ∷ directives r (a .start) ∷ P)
 take-directives {l = l} {r = r} a (form (aName n) (form (anOptArguments xs g) (form aClose (form (aDirectives ds h) F)))) =
-    let d : Directive = record { atAt = a; name = n; args = xs } in
-    (form (anOptDirectives {r = r} (trees.directives (consDirectives d ds)) (consDirectives-depth r d ds g h)) F,
-    directive-tokens a n xs ds (tokensOf F),
-    ap (λ (es : List Item). es ++ eventsOf (endAfter l (directivesTokens (consDirectives d ds))) F) (directives-node l a n xs ds)
-    ∙ ap (λ (es : List Item). opens 20 (a .start) ∷ es) (directive-join (a .start) l a n xs ds F))
+    let d : Directive = record { atAt = a; name = n; args = xs } in (
+      form (anOptDirectives {r = r} (trees.directives (consDirectives d ds)) (consDirectives-depth r d ds g h)) F,
+      directive-tokens a n xs ds (tokensOf F),
+      ap (λ (es : List Item). es ++ eventsOf (endAfter l (directivesTokens (consDirectives d ds))) F) (directives-node l a n xs ds)
+          ∙ ap (λ (es : List Item). opens 20 (a .start) ∷ es) (directive-join (a .start) l a n xs ds F),
+    )
 
 -- directives, or none
 on-optDirectives : {c : Bool} {l : ℕ} {t : Token} (r : ℕ) (P K : List Sym) (m : Move) → Back c l t P K m → Back c l t (optDirectives r ∷ P) K (orDirectives r (P ++ K) t m)
@@ -181,14 +186,18 @@ on-directives {l = l} r s P K m b =
 -- ---- selection sets
 
 take-set : {c : Bool} {l r : ℕ} {P : List Sym} (a : Span) → Taken c l (selectionSet r ∷ P) (of braceL a) (opens 15 (a .start) ∷ tokenEvent (of braceL a) ∷ []) (firstSelection r (a .start) ∷ P)
-take-set a (form (aFirst ss b h) F) =
-    (form (aSet (trees.selectionSet a ss b) h) F, refl,
-    ap (λ (es : List Item). es ++ eventsOf (endAfter (endOf (of braceL a)) (selectionsTokens ss ++ (of braceR b ∷ []))) F) (node-bracketed 15 (of braceL a) (of braceR b) (selectionsTokens ss) (selectionsEvents ss)))
+take-set a (form (aFirst ss b h) F) = (
+  form (aSet (trees.selectionSet a ss b) h) F,
+  refl,
+  ap (λ (es : List Item). es ++ eventsOf (endAfter (endOf (of braceL a)) (selectionsTokens ss ++ (of braceR b ∷ []))) F) (node-bracketed 15 (of braceL a) (of braceR b) (selectionsTokens ss) (selectionsEvents ss)),
+)
 
 take-optSet : {c : Bool} {l r : ℕ} {P : List Sym} (a : Span) → Taken c l (optSelectionSet r ∷ P) (of braceL a) (opens 15 (a .start) ∷ tokenEvent (of braceL a) ∷ []) (firstSelection r (a .start) ∷ P)
-take-optSet a (form (aFirst ss b h) F) =
-    (form (anOptSet (someSelectionSet (trees.selectionSet a ss b)) h) F, refl,
-    ap (λ (es : List Item). es ++ eventsOf (endAfter (endOf (of braceL a)) (selectionsTokens ss ++ (of braceR b ∷ []))) F) (node-bracketed 15 (of braceL a) (of braceR b) (selectionsTokens ss) (selectionsEvents ss)))
+take-optSet a (form (aFirst ss b h) F) = (
+  form (anOptSet (someSelectionSet (trees.selectionSet a ss b)) h) F,
+  refl,
+  ap (λ (es : List Item). es ++ eventsOf (endAfter (endOf (of braceL a)) (selectionsTokens ss ++ (of braceR b ∷ []))) F) (node-bracketed 15 (of braceL a) (of braceR b) (selectionsTokens ss) (selectionsEvents ss)),
+)
 
 -- a selection set
 on-set : {c : Bool} {l : ℕ} {t : Token} (r : ℕ) (P K : List Sym) → Back c l t (selectionSet r ∷ P) K (orSelectionSet r (P ++ K) t (stop 9))
@@ -252,17 +261,19 @@ selection-join x t us es e f ss b s l F =
 
 take-named : {c : Bool} {l r s : ℕ} {P : List Sym} (n : Name) → Taken c l (firstSelection (suc r) s ∷ P) (nameToken n) [] (named r (nameToken n) ∷ selections r s ∷ P)
 take-named {l = l} {r = r} {s = s} n (form f (form (aSelections ss b h) F)) =
-    let x = fieldOf n f in
-    (form (aFirst {r = suc r} (consSelections x ss) b (omega (arith, consSelections-depth r x ss (field-depth n f) h))) F,
-    selection-tokens x (nameToken n) (formTokens f) (field-tokens n f) ss b (tokensOf F),
-    selection-join x (nameToken n) (formTokens f) (formEvents (endOf (nameToken n)) f) (field-tokens n f) (field-events n f) ss b s l F)
+    let x = fieldOf n f in (
+      form (aFirst {r = suc r} (consSelections x ss) b (omega (arith, consSelections-depth r x ss (field-depth n f) h))) F,
+      selection-tokens x (nameToken n) (formTokens f) (field-tokens n f) ss b (tokensOf F),
+      selection-join x (nameToken n) (formTokens f) (formEvents (endOf (nameToken n)) f) (field-tokens n f) (field-events n f) ss b s l F,
+    )
 
 take-spread : {c : Bool} {l r s : ℕ} {P : List Sym} (d : Span) → Taken c l (firstSelection (suc r) s ∷ P) (of dots d) [] (spread r (of dots d) ∷ selections r s ∷ P)
 take-spread {l = l} {r = r} {s = s} d (form f (form (aSelections ss b h) F)) =
-    let x = spreadOf d f in
-    (form (aFirst {r = suc r} (consSelections x ss) b (omega (arith, consSelections-depth r x ss (spread-depth d f) h))) F,
-    selection-tokens x (of dots d) (formTokens f) (spread-tokens d f) ss b (tokensOf F),
-    selection-join x (of dots d) (formTokens f) (formEvents (endOf (of dots d)) f) (spread-tokens d f) (spread-events d f) ss b s l F)
+    let x = spreadOf d f in (
+      form (aFirst {r = suc r} (consSelections x ss) b (omega (arith, consSelections-depth r x ss (spread-depth d f) h))) F,
+      selection-tokens x (of dots d) (formTokens f) (spread-tokens d f) ss b (tokensOf F),
+      selection-join x (of dots d) (formTokens f) (formEvents (endOf (of dots d)) f) (spread-tokens d f) (spread-events d f) ss b s l F,
+    )
 
 -- a selection set's first selection
 on-selection : {c : Bool} {l : ℕ} {t : Token} (r s : ℕ) (P K : List Sym) → Back c l t (firstSelection (suc r) s ∷ P) K (orSelection r (selections r s ∷ (P ++ K)) t (stop 9))
@@ -302,18 +313,20 @@ on-close {l = l} n s P K m b = turn (closes n s l ∷ []) (λ F. (form aClose F,
 take-alias : {c : Bool} {l r : ℕ} {P : List Sym} (n : Token) (k : Span)
     → Taken c l (named r n ∷ P) (of colon k) (opens 16 (n .start) ∷ opens 17 (n .start) ∷ (nameEvents n ++ (tokenEvent (of colon k) ∷ closes 17 (n .start) (endOf (of colon k)) ∷ [])))
     (name ∷ afterName r (n .start) P)
-take-alias n k (form (aName m) (form (anOptArguments xs g) (form (anOptDirectives ds h) (form (anOptSet s i) (form aClose F))))) =
-    (form (anAlias k m xs ds s g h i) F,
-    ap (λ (us : List Token). of colon k ∷ nameToken m ∷ us) (join-last (optArgumentsTokens xs) (optDirectivesTokens ds) (optSetTokens s) (tokensOf F)),
-    ap (λ (es : List Item). opens 16 (n .start) ∷ opens 17 (n .start) ∷ (nameEvents n ++ (tokenEvent (of colon k) ∷ closes 17 (n .start) (endOf (of colon k)) ∷ (nameEvents (nameToken m) ++ es))))
-    (tail-join 16 (n .start) (endOf (nameToken m)) (optArgumentsEvents xs) (optDirectivesEvents ds) (optSetEvents s) (optArgumentsTokens xs) (optDirectivesTokens ds) (optSetTokens s) F))
+take-alias n k (form (aName m) (form (anOptArguments xs g) (form (anOptDirectives ds h) (form (anOptSet s i) (form aClose F))))) = (
+  form (anAlias k m xs ds s g h i) F,
+  ap (λ (us : List Token). of colon k ∷ nameToken m ∷ us) (join-last (optArgumentsTokens xs) (optDirectivesTokens ds) (optSetTokens s) (tokensOf F)),
+  ap (λ (es : List Item). opens 16 (n .start) ∷ opens 17 (n .start) ∷ (nameEvents n ++ (tokenEvent (of colon k) ∷ closes 17 (n .start) (endOf (of colon k)) ∷ (nameEvents (nameToken m) ++ es))))
+      (tail-join 16 (n .start) (endOf (nameToken m)) (optArgumentsEvents xs) (optDirectivesEvents ds) (optSetEvents s) (optArgumentsTokens xs) (optDirectivesTokens ds) (optSetTokens s) F),
+)
 
 turn-plain : {c : Bool} {l r : ℕ} {P : List Sym} (n : Token) → Turns c l (named r n ∷ P) (opens 16 (n .start) ∷ nameEvents n) (afterName r (n .start) P)
-turn-plain {l = l} n (form (anOptArguments xs g) (form (anOptDirectives ds h) (form (anOptSet s i) (form aClose F)))) =
-    (form (aPlain xs ds s g h i) F,
-    join-last (optArgumentsTokens xs) (optDirectivesTokens ds) (optSetTokens s) (tokensOf F),
-    ap (λ (es : List Item). opens 16 (n .start) ∷ (nameEvents n ++ es))
-    (tail-join 16 (n .start) l (optArgumentsEvents xs) (optDirectivesEvents ds) (optSetEvents s) (optArgumentsTokens xs) (optDirectivesTokens ds) (optSetTokens s) F))
+turn-plain {l = l} n (form (anOptArguments xs g) (form (anOptDirectives ds h) (form (anOptSet s i) (form aClose F)))) = (
+  form (aPlain xs ds s g h i) F,
+  join-last (optArgumentsTokens xs) (optDirectivesTokens ds) (optSetTokens s) (tokensOf F),
+  ap (λ (es : List Item). opens 16 (n .start) ∷ (nameEvents n ++ es))
+      (tail-join 16 (n .start) l (optArgumentsEvents xs) (optDirectivesEvents ds) (optSetEvents s) (optArgumentsTokens xs) (optDirectivesTokens ds) (optSetTokens s) F),
+)
 
 -- what follows the first name of a field
 on-named : {c : Bool} {l : ℕ} {t : Token} (r : ℕ) (n : Token) (P K : List Sym) → Back c l t P K (step c l (P ++ K) t) → Back c l t (named r n ∷ P) K (step c l (named r n ∷ (P ++ K)) t)
@@ -333,10 +346,12 @@ on-named {c} {l} {t} r n P K b =
 take-fragment : {c : Bool} {l r : ℕ} {P : List Sym} (d : Token) (w : FragmentWord) (n : Span)
     → Taken c l (spread r d ∷ P) (of (fragmentKind w) n) (opens 22 (d .start) ∷ tokenEvent d ∷ node 23 (of (fragmentKind w) n ∷ []) (nameEvents (of (fragmentKind w) n))) (optDirectives r ∷ close 22 (d .start) ∷ P)
 take-fragment d w n (form (anOptDirectives ds h) (form aClose F)) =
-    let e : ℕ = endAfter (endOf (of (fragmentKind w) n)) (optDirectivesTokens ds) in
-    (form (aFragment w n ds h) F, refl,
-    ap (λ (es : List Item). opens 22 (d .start) ∷ tokenEvent d ∷ (node 23 (of (fragmentKind w) n ∷ []) (nameEvents (of (fragmentKind w) n)) ++ es))
-    (append-assoc (optDirectivesEvents ds) (closes 22 (d .start) e ∷ []) (eventsOf e F)))
+    let e : ℕ = endAfter (endOf (of (fragmentKind w) n)) (optDirectivesTokens ds) in (
+      form (aFragment w n ds h) F,
+      refl,
+      ap (λ (es : List Item). opens 22 (d .start) ∷ tokenEvent d ∷ (node 23 (of (fragmentKind w) n ∷ []) (nameEvents (of (fragmentKind w) n)) ++ es))
+          (append-assoc (optDirectivesEvents ds) (closes 22 (d .start) e ∷ []) (eventsOf e F)),
+    )
 
 -- an inline fragment's directives, selection set and end
 fragment-join : {c : Bool} {P : List Sym} (k : OptCondition) (ds : OptDirectives) (s : SelectionSet) (q l : ℕ) (F : Forms c P)
@@ -354,16 +369,18 @@ fragment-join k ds s q l F =
 take-condition : {c : Bool} {l r : ℕ} {P : List Sym} (d : Token) (o : Span)
     → Taken c l (spread r d ∷ P) (of wordOn o) (opens 24 (d .start) ∷ tokenEvent d ∷ opens 25 (o .start) ∷ tokenEvent (of wordOn o) ∷ [])
     (namedType ∷ close 25 (o .start) ∷ optDirectives r ∷ selectionSet r ∷ close 24 (d .start) ∷ P)
-take-condition {l = l} d o (form (aType n) (form aClose (form (anOptDirectives ds g) (form (aSet s h) (form aClose F))))) =
-    (form (anInline (condition o n) ds s g h) F,
-    ap (λ (us : List Token). of wordOn o ∷ nameToken n ∷ us) (append-assoc (optDirectivesTokens ds) (setTokens s) (tokensOf F)),
-    ap (λ (es : List Item). opens 24 (d .start) ∷ tokenEvent d ∷ es) (fragment-join (condition o n) ds s (d .start) l F))
+take-condition {l = l} d o (form (aType n) (form aClose (form (anOptDirectives ds g) (form (aSet s h) (form aClose F))))) = (
+  form (anInline (condition o n) ds s g h) F,
+  ap (λ (us : List Token). of wordOn o ∷ nameToken n ∷ us) (append-assoc (optDirectivesTokens ds) (setTokens s) (tokensOf F)),
+  ap (λ (es : List Item). opens 24 (d .start) ∷ tokenEvent d ∷ es) (fragment-join (condition o n) ds s (d .start) l F),
+)
 
 turn-inline : {c : Bool} {l r : ℕ} {P : List Sym} (d : Token) → Turns c l (spread r d ∷ P) (opens 24 (d .start) ∷ tokenEvent d ∷ []) (optDirectives r ∷ selectionSet r ∷ close 24 (d .start) ∷ P)
-turn-inline {l = l} d (form (anOptDirectives ds g) (form (aSet s h) (form aClose F))) =
-    (form (anInline noCondition ds s g h) F,
-    append-assoc (optDirectivesTokens ds) (setTokens s) (tokensOf F),
-    ap (λ (es : List Item). opens 24 (d .start) ∷ tokenEvent d ∷ es) (fragment-join noCondition ds s (d .start) l F))
+turn-inline {l = l} d (form (anOptDirectives ds g) (form (aSet s h) (form aClose F))) = (
+  form (anInline noCondition ds s g h) F,
+  append-assoc (optDirectivesTokens ds) (setTokens s) (tokensOf F),
+  ap (λ (es : List Item). opens 24 (d .start) ∷ tokenEvent d ∷ es) (fragment-join noCondition ds s (d .start) l F),
+)
 
 test-also : {c : Bool} {l : ℕ} {t : Token} {P K : List Sym} (m n : Move) (es : List Item) (b : Bool)
     → (b ≡ true → Back c l t P K (also es m)) → Back c l t P K (also es n) → Back c l t P K (also es (pick b m n))

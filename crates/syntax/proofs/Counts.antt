@@ -1,13 +1,13 @@
 -- Events number at most five for each token, so that those of a text of at most 16,777,217 tokens number below 2 ^ 28. Assumes nothing.
 use Prim.Native.Nat.{ℕ, suc, _+_, _*_, _^_, _≤_, _<_}
 use native.Mathlib.Omega.{arith}
-use mathlib.Core.Path.{_≡_, refl, ap}
+use mathlib.Core.Path.{_≡_}
 use mathlib.Core.Bool.{Bool}
 use mathlib.Core.List.{List, [], _∷_, _++_}
 use lib.ListN.{length, length-append}
 use Rattle.base.specs.Item.{Item}
 use Rattle.syntax.specs.Token.{parenL, parenR, dots, colon, at, bang, bracketL, bracketR, braceL, braceR, Token, tokenEvent, closes, nameEvents}
-use Rattle.syntax.specs.Grammar.{Span, of, nameToken, fragmentKind, startOf, lastEnd, node, Value, variable, intValue, floatValue, stringValue, trueValue, falseValue, nullValue, enumValue, listValue, objectValue, Values, noValue, aValue, Fields, noField, aField, valueTokens, valuesTokens, fieldsTokens, valueEvents, valuesEvents, fieldsEvents}
+use Rattle.syntax.specs.Grammar.{of, nameToken, fragmentKind, startOf, lastEnd, node, Value, variable, intValue, floatValue, stringValue, trueValue, falseValue, nullValue, enumValue, listValue, objectValue, Values, noValue, aValue, Fields, noField, aField, valueTokens, valuesTokens, fieldsTokens, valueEvents, valuesEvents, fieldsEvents}
 use Rattle.syntax.specs.Types.{Ty, nullable, nonNull, Base, namedType, listType, tyTokens, baseTokens, tyEvents, baseEvents}
 use Rattle.syntax.specs.Selections.{Argument, Arguments, oneArgument, moreArguments, OptArguments, noArguments, arguments, Directive, Directives, oneDirective, moreDirectives, OptDirectives, noDirectives, directives, OptAlias, noAlias, alias, OptCondition, noCondition, condition, SelectionSet, selectionSet, Selections, oneSelection, moreSelections, Selection, field, fragmentSpread, inlineFragment, OptSelectionSet, noSelectionSet, someSelectionSet, argumentTokens, argumentsTokens, optArgumentsTokens, directiveTokens, directivesTokens, optDirectivesTokens, aliasTokens, conditionTokens, setTokens, selectionTokens, selectionsTokens, optSetTokens, argumentEvents, argumentsEvents, optArgumentsEvents, directiveEvents, directivesEvents, optDirectivesEvents, aliasEvents, conditionEvents, setEvents, selectionEvents, selectionsEvents, optSetEvents}
 
@@ -115,23 +115,23 @@ mutual
   selections-few (moreSelections s ss) = few-append (selectionEvents s) (selectionsEvents ss) (selectionTokens s) (selectionsTokens ss) (selection-few s) (selections-few ss)
 
   pub selection-few : (s : Selection) → Few (selectionEvents s) (selectionTokens s)
-  selection-few (field a n xs ds s) = 
+  selection-few (field a n xs ds s) =
       let us = optArgumentsTokens xs ++ (optDirectivesTokens ds ++ optSetTokens s) in
       let es = optArgumentsEvents xs ++ (optDirectivesEvents ds ++ optSetEvents s) in
       let h : Few es us =
-          few-append (optArgumentsEvents xs) (optDirectivesEvents ds ++ optSetEvents s) (optArgumentsTokens xs) (optDirectivesTokens ds ++ optSetTokens s) (optArguments-few xs)
-          (few-append (optDirectivesEvents ds) (optSetEvents s) (optDirectivesTokens ds) (optSetTokens s) (optDirectives-few ds) (optSet-few s)) in
+      few-append (optArgumentsEvents xs) (optDirectivesEvents ds ++ optSetEvents s) (optArgumentsTokens xs) (optDirectivesTokens ds ++ optSetTokens s) (optArguments-few xs)
+      (few-append (optDirectivesEvents ds) (optSetEvents s) (optDirectivesTokens ds) (optSetTokens s) (optDirectives-few ds) (optSet-few s)) in
       let k = alias-few a in
       omega (arith, node-length 16 (aliasTokens a ++ (nameToken n ∷ us)) (aliasEvents a ++ (nameEvents (nameToken n) ++ es)), length-append (aliasEvents a) (nameEvents (nameToken n) ++ es), length-append (aliasTokens a) (nameToken n ∷ us))
   selection-few (fragmentSpread d w n ds) =
       let h = optDirectives-few ds in
       let t = of (fragmentKind w) n in
       omega (arith, node-length 22 (selectionTokens (fragmentSpread d w n ds)) (tokenEvent (of dots d) ∷ (node 23 (t ∷ []) (nameEvents t) ++ optDirectivesEvents ds)))
-  selection-few (inlineFragment d c ds s) = 
+  selection-few (inlineFragment d c ds s) =
       let us = optDirectivesTokens ds ++ setTokens s in
       let es = optDirectivesEvents ds ++ setEvents s in
       let h : Few (conditionEvents c ++ es) (conditionTokens c ++ us) =
-          few-append (conditionEvents c) es (conditionTokens c) us (condition-few c) (few-append (optDirectivesEvents ds) (setEvents s) (optDirectivesTokens ds) (setTokens s) (optDirectives-few ds) (set-few s)) in
+      few-append (conditionEvents c) es (conditionTokens c) us (condition-few c) (few-append (optDirectivesEvents ds) (setEvents s) (optDirectivesTokens ds) (setTokens s) (optDirectives-few ds) (set-few s)) in
       omega (arith, node-length 24 (of dots d ∷ (conditionTokens c ++ us)) (tokenEvent (of dots d) ∷ (conditionEvents c ++ es)))
 
   pub optSet-few : (s : OptSelectionSet) → Few (optSetEvents s) (optSetTokens s)

@@ -1,14 +1,14 @@
 -- Values, types and selection sets as trees of nodes and tokens: each has the tokens and the events of its tree. Assumes nothing.
-use Prim.Native.Nat.{ℕ, _<_}
+use Prim.Native.Nat.{ℕ}
 use mathlib.Core.Path.{_≡_, refl, sym, ap, ap₂, _∙_}
 use mathlib.Core.Bool.{Bool}
 use mathlib.Core.List.{List, [], _∷_, _++_, append-assoc, append-nil}
 use lib.Dec.{T, ltb}
 use Rattle.base.specs.Item.{Item}
 use Rattle.syntax.specs.Token.{dollar, parenL, parenR, dots, colon, at, bang, bracketL, bracketR, braceL, braceR, string, int, float, wordTrue, wordFalse, wordNull, wordOn, Token, tokenEvent, nameEvents}
-use Rattle.syntax.specs.Grammar.{Span, of, Name, nameToken, enumKind, fragmentKind, node, Value, variable, intValue, floatValue, stringValue, trueValue, falseValue, nullValue, enumValue, listValue, objectValue, Values, noValue, aValue, Fields, noField, aField, valueTokens, valuesTokens, fieldsTokens, valueEvents, valuesEvents, fieldsEvents}
+use Rattle.syntax.specs.Grammar.{of, nameToken, enumKind, fragmentKind, node, Value, variable, intValue, floatValue, stringValue, trueValue, falseValue, nullValue, enumValue, listValue, objectValue, Values, noValue, aValue, Fields, noField, aField, valueTokens, valuesTokens, fieldsTokens, valueEvents, valuesEvents, fieldsEvents}
 use Rattle.syntax.specs.Types.{Ty, nullable, nonNull, Base, namedType, listType, tyTokens, baseTokens, tyEvents, baseEvents}
-use Rattle.syntax.specs.Selections.{Argument, Arguments, oneArgument, moreArguments, OptArguments, noArguments, arguments, Directive, Directives, oneDirective, moreDirectives, OptDirectives, noDirectives, directives, OptAlias, noAlias, alias, OptCondition, noCondition, condition, SelectionSet, selectionSet, Selections, oneSelection, moreSelections, Selection, field, fragmentSpread, inlineFragment, OptSelectionSet, noSelectionSet, someSelectionSet, argumentTokens, argumentsTokens, optArgumentsTokens, directiveTokens, directivesTokens, optDirectivesTokens, conditionTokens, setTokens, selectionTokens, selectionsTokens, optSetTokens, argumentEvents, argumentsEvents, optArgumentsEvents, directiveEvents, directivesEvents, optDirectivesEvents, conditionEvents, setEvents, selectionEvents, selectionsEvents, optSetEvents}
+use Rattle.syntax.specs.Selections.{Argument, Arguments, oneArgument, moreArguments, OptArguments, noArguments, arguments, Directive, Directives, oneDirective, moreDirectives, OptDirectives, noDirectives, directives, noAlias, alias, OptCondition, noCondition, condition, SelectionSet, selectionSet, Selections, oneSelection, moreSelections, Selection, field, fragmentSpread, inlineFragment, OptSelectionSet, noSelectionSet, someSelectionSet, argumentTokens, argumentsTokens, optArgumentsTokens, directiveTokens, directivesTokens, optDirectivesTokens, conditionTokens, setTokens, selectionTokens, selectionsTokens, optSetTokens, argumentEvents, argumentsEvents, optArgumentsEvents, directiveEvents, directivesEvents, optDirectivesEvents, conditionEvents, setEvents, selectionEvents, selectionsEvents, optSetEvents}
 
 mutual
   -- a token, or a node of a code below 64 with at least one child

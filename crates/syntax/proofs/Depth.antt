@@ -2,7 +2,7 @@
 use Prim.Native.Nat.{ℕ, zero, suc, _+_, _-_, _≤_}
 use native.Mathlib.Nat.{add-zero, add-suc}
 use native.Mathlib.Omega.{arith}
-use mathlib.Core.Path.{_≡_, refl, sym, ap, _∙_}
+use mathlib.Core.Path.{_≡_, refl, ap, _∙_}
 use mathlib.Core.Bool.{Bool, true, false}
 use mathlib.Core.Logic.{_⊎_, inl, inr}
 use mathlib.Core.List.{List, [], _∷_, _++_}
@@ -10,7 +10,7 @@ use lib.Dec.{eqb}
 use Rattle.base.specs.Text.{pick}
 use Rattle.base.specs.Item.{Item}
 use Rattle.syntax.specs.Token.{eof, dollar, colon, dots, at, parenL, parenR, bracketL, bracketR, braceL, braceR, string, int, float, wordTrue, wordFalse, wordNull, wordOn, isName, isEnum, isFragmentName, Token, endOf, tokenEvent, opens, closes, leaf, nameEvents}
-use Rattle.syntax.specs.Machine.{Sym, value, deeper, items, fields, name, colonDue, close, selectionSet, optSelectionSet, firstSelection, selections, named, spread, optArguments, firstArgument, arguments, optDirectives, directives, namedType, Move, go, stop, halt, also, atValue, atDeeper, atItems, atFields, atName, atColon, atNamedType, orSelectionSet, orSelection, atFirstSelection, atSelections, afterName, orArguments, orArgument, atArguments, orDirective, orDirectives, atSpread, step, Read, refused, accepted, emits, moved, run, readValue, readConstant, readSelectionSet}
+use Rattle.syntax.specs.Machine.{Sym, value, deeper, items, fields, name, colonDue, close, selectionSet, optSelectionSet, firstSelection, selections, named, spread, optArguments, firstArgument, arguments, optDirectives, directives, namedType, Move, go, stop, halt, also, atValue, atDeeper, atItems, atFields, atName, atColon, atNamedType, orSelectionSet, orSelection, atFirstSelection, atSelections, afterName, orArguments, orArgument, atArguments, orDirective, atSpread, step, Read, refused, accepted, emits, moved, run, readValue, readConstant, readSelectionSet}
 use Rattle.syntax.specs.TypeReading.{TypeRead, typed, untyped, withBang, withBracket, noDepth, typeAt, wholeType, readType}
 
 -- what is due, with one level more

@@ -1,5 +1,5 @@
 -- What is still due, as trees: for each thing that is due a tree of it within the depth that is left, with its tokens and its events. Assumes nothing: these are definitions.
-use Prim.Native.Nat.{ℕ, suc, max, _≤_}
+use Prim.Native.Nat.{ℕ, suc, _≤_}
 use mathlib.Core.Bool.{Bool}
 use mathlib.Core.List.{List, [], _∷_, _++_}
 use Rattle.base.specs.Item.{Item}

@@ -1,16 +1,16 @@
 -- Events nest: each closing matches its opening and spans its node's first token's start to its last token's end; and each token stands among
 -- the events once, in order, with its own span. Assumes nothing.
-use Prim.Native.Nat.{ℕ, suc, _+_, _-_, _<_, _≤_}
+use Prim.Native.Nat.{ℕ, _+_, _-_, _<_}
 use native.Mathlib.Omega.{arith}
 use mathlib.Core.Path.{_≡_, refl, sym, ap, ap₂, _∙_}
 use mathlib.Core.Bool.{Bool, true, false}
 use mathlib.Core.List.{List, [], _∷_, _++_, map, append-assoc, append-nil}
-use lib.Dec.{T, leb, ltb, ltb→lt}
+use lib.Dec.{leb, ltb→lt}
 use borrow.Author.Tests.{le-leb, lt-leb}
 use Rattle.base.specs.Text.{pick}
 use Rattle.base.specs.Item.{Item, item}
-use Rattle.syntax.specs.Token.{Token, endOf, codeOf, tokenEvent, opens, closes}
-use Rattle.syntax.specs.Grammar.{startOf, lastEnd, node, Value, valueTokens, valueEvents}
+use Rattle.syntax.specs.Token.{Token, codeOf, tokenEvent, closes}
+use Rattle.syntax.specs.Grammar.{startOf, lastEnd, Value, valueTokens, valueEvents}
 use Rattle.syntax.specs.Types.{Ty, tyTokens, tyEvents}
 use Rattle.syntax.specs.Selections.{SelectionSet, setTokens, setEvents}
 use Rattle.syntax.proofs.Steps.{endAfter, endAfter-append, Some, some-end}

@@ -20,7 +20,7 @@ use Rattle.syntax.specs.TypeReading.{readType}
 use Rattle.syntax.proofs.ValueComplete.{value-accepted}
 use Rattle.syntax.proofs.TypeComplete.{type-complete}
 use Rattle.syntax.proofs.SetComplete.{set-complete}
-use Rattle.syntax.proofs.Cst.{Cst, cstTokens, cstEvents, Is, valueCst, is-value, tyCst, is-ty, setCst, is-set}
+use Rattle.syntax.proofs.Cst.{Cst, Is, valueCst, is-value, tyCst, is-ty, setCst, is-set}
 use Rattle.syntax.proofs.Nest.{tokensIn, value-tokensIn, ty-tokensIn, set-tokensIn}
 use Rattle.syntax.proofs.Unique.{one-cst, same-value, same-ty, same-set}
 

@@ -1,6 +1,6 @@
 -- The place of a refusal: the tokens before it begin a sentence, and with the token there they begin none (9), none within the limit (7), or
 -- none that is constant (8). Assumes nothing.
-use Prim.Native.Nat.{ℕ, zero, suc, _+_, _≤_, max}
+use Prim.Native.Nat.{ℕ, zero, suc, _≤_, max}
 use native.Mathlib.Omega.{arith}
 use mathlib.Core.Path.{_≡_, refl, sym, ap, ap₂, _∙_, subst}
 use mathlib.Core.Bool.{Bool, true, false}
@@ -10,18 +10,18 @@ use lib.Dec.{eqb}
 use borrow.Author.Tests.{eqb-true}
 use Rattle.base.specs.Text.{pick}
 use Rattle.base.specs.Item.{Item}
-use Rattle.syntax.specs.Token.{eof, dollar, colon, dots, at, parenL, parenR, bracketL, bracketR, braceL, braceR, string, int, float, wordTrue, wordFalse, wordNull, wordOn, isName, isEnum, isFragmentName, Token, token, endOf, tokenEvent, opens, closes, leaf, nameEvents}
+use Rattle.syntax.specs.Token.{eof, dollar, colon, at, parenL, bracketR, braceL, int, wordOn, isName, isEnum, isFragmentName, Token, token, endOf, tokenEvent, opens, closes, nameEvents}
 use Rattle.syntax.specs.Grammar.{Span, of, Word, Name, FragmentWord, Value, intValue, noValue, noField, aValue as anItem, valueTokens, valuesTokens, valueEvents, valueDepth}
 use Rattle.syntax.specs.Selections as trees
 use Rattle.syntax.specs.Selections.{oneArgument, noArguments, noDirectives, noAlias, SelectionSet, oneSelection, field, noSelectionSet, setTokens, setEvents, setDepth}
-use Rattle.syntax.specs.Machine.{Sym, value, deeper, items, fields, name, colonDue, close, selectionSet, optSelectionSet, firstSelection, selections, named, spread, optArguments, firstArgument, arguments, optDirectives, directives, namedType, Move, go, stop, halt, also, atValue, atDeeper, atItems, atFields, atName, atColon, atNamedType, orSelectionSet, orSelection, atFirstSelection, atSelections, afterName, orArguments, orArgument, atArguments, orDirective, orDirectives, atSpread, step, Read, refused, accepted, emits, moved, run, readValue, readConstant, readSelectionSet}
+use Rattle.syntax.specs.Machine.{Sym, value, deeper, items, fields, name, colonDue, close, selectionSet, optSelectionSet, firstSelection, selections, named, spread, optArguments, firstArgument, arguments, optDirectives, directives, namedType, Move, go, stop, halt, also, atValue, atDeeper, atItems, atFields, atName, atColon, atNamedType, orSelectionSet, orSelection, atFirstSelection, atSelections, afterName, orArguments, orArgument, atArguments, orDirective, orDirectives, atSpread, step, Read, refused, accepted, emits, moved, run, readSelectionSet}
 use Rattle.syntax.proofs.Steps.{emits-emits, emits-refused, join-first}
 use Rattle.syntax.proofs.ValueComplete.{value-accepted}
 use Rattle.syntax.proofs.SetComplete.{set-complete}
-use Rattle.syntax.proofs.Forms.{noMore, Form, aValue, aDeeper, anItems, aFields, aName, aColon, aClose, aSet, anOptSet, aFirst, aSelections, aPlain, aFragment, anOptArguments, aFirstArgument, anArguments, anOptDirectives, aDirectives, aType, formTokens, Forms, none, form, tokensOf, eventsOf}
+use Rattle.syntax.proofs.Forms.{noMore, Form, aValue, aDeeper, anItems, aFields, aName, aColon, aClose, aSet, anOptSet, aFirst, aSelections, aPlain, aFragment, anOptArguments, aFirstArgument, anArguments, anOptDirectives, aDirectives, aType, formTokens, Forms, none, form, tokensOf}
 use Rattle.syntax.proofs.Back.{Back, takes, refuses, passes}
 use Rattle.syntax.proofs.BackSets.{back}
-use Rattle.syntax.proofs.Depth.{lift, lifts, Past, Lifted, goes, halts, stays, past, lifted, NotSeven, value-raised, readSelectionSet-raised}
+use Rattle.syntax.proofs.Depth.{lifts, Past, Lifted, goes, halts, stays, past, lifted, NotSeven, value-raised, readSelectionSet-raised}
 
 -- ---- Eof is never taken
 
@@ -214,7 +214,8 @@ pub alone : {c : Bool} {K : List Sym} {l n p : ℕ} {ts : List Token} (r : Refus
 unfolding run
 alone {n = n} r ws = r .reach (r .here ∷ ws) ∙ rw (r .stops, r .place)
 
-not-accepted : (a : Read) (n p : ℕ) (es : List Item) → a ≡ refused n p → a ≡ accepted es → ⊥
+-- what is refused is not accepted
+pub not-accepted : (a : Read) (n p : ℕ) (es : List Item) → a ≡ refused n p → a ≡ accepted es → ⊥
 not-accepted a n p es e f = let z : _≡_ {A = ℕ} 0 1 = cc in omega arith
 
 -- ---- 7: with one level more
@@ -463,9 +464,11 @@ pub eight-value : {c : Bool} {d p : ℕ} {ts : List Token} (r : Refusal c (value
 eight-value {c} {d} r s =
     let x = dollar-of (eight c (r .end) (r .due) (r .here)) (r .stops) in
     let y = x .instead s in
-    let w = r .begins (y .0) in
-    (x .constant, x .sign,
-    begins-value c (suc d) (r .before ++ (of int s ∷ [])) (y .1) (w .0) (w .1 ∙ ap (λ (us : List Token). r .before ++ us) (y .2) ∙ sym (append-assoc (r .before) (of int s ∷ []) (y .1))))
+    let w = r .begins (y .0) in (
+      x .constant,
+      x .sign,
+      begins-value c (suc d) (r .before ++ (of int s ∷ [])) (y .1) (w .0) (w .1 ∙ ap (λ (us : List Token). r .before ++ us) (y .2) ∙ sym (append-assoc (r .before) (of int s ∷ []) (y .1))),
+    )
 
 -- ---- the numbers
 

@@ -1,18 +1,18 @@
 -- A selection set's tokens within the depth limit are read, with its events. Assumes nothing.
 -- An optional part that is missing must not be followed by a token that would begin it: `Not`.
-use Prim.Native.Nat.{ℕ, zero, suc, max, _≤_}
+use Prim.Native.Nat.{ℕ, zero, suc, _≤_}
 use native.Mathlib.Omega.{arith}
-use mathlib.Core.Path.{_≡_, refl, sym, ap, ap₂, _∙_}
-use mathlib.Core.Bool.{Bool, true, false}
+use mathlib.Core.Path.{_≡_, refl, sym, ap, _∙_}
+use mathlib.Core.Bool.{false}
 use mathlib.Core.List.{List, [], _∷_, _++_, append-assoc, append-nil}
 use lib.Dec.{eqb}
 use Rattle.base.specs.Item.{Item}
 use Rattle.syntax.specs.Token.{eof, parenL, parenR, dots, colon, at, braceL, braceR, wordOn, isName, isFragmentName, Token, endOf, tokenEvent, opens, closes, nameEvents}
 use Rattle.syntax.specs.Grammar.{Span, of, Name, nameToken, FragmentWord, fragmentKind, startOf, lastEnd, node, Value, valueTokens, valueEvents, valueDepth}
 use Rattle.syntax.specs.Selections as trees
-use Rattle.syntax.specs.Selections.{Argument, Arguments, oneArgument, moreArguments, OptArguments, noArguments, Directive, Directives, oneDirective, moreDirectives, OptDirectives, noDirectives, OptCondition, noCondition, condition, noAlias, alias, SelectionSet, Selections, oneSelection, moreSelections, Selection, field, fragmentSpread, inlineFragment, OptSelectionSet, noSelectionSet, someSelectionSet, argumentTokens, argumentsTokens, optArgumentsTokens, directiveTokens, directivesTokens, optDirectivesTokens, conditionTokens, setTokens, selectionTokens, selectionsTokens, optSetTokens, argumentEvents, argumentsEvents, optArgumentsEvents, directiveEvents, directivesEvents, optDirectivesEvents, conditionEvents, setEvents, selectionEvents, selectionsEvents, optSetEvents, argumentsDepth, optArgumentsDepth, directivesDepth, optDirectivesDepth, setDepth, selectionDepth, selectionsDepth, optSetDepth}
-use Rattle.syntax.specs.Machine.{Sym, value, name, colonDue, close, selectionSet, optSelectionSet, firstSelection, selections, named, spread, optArguments, firstArgument, arguments, optDirectives, directives, namedType, also, atName, atColon, atNamedType, orSelectionSet, orSelection, atFirstSelection, atSelections, afterName, orArguments, orArgument, atArguments, orDirective, orDirectives, atSpread, step, Read, accepted, emits, moved, run, readSelectionSet}
-use Rattle.syntax.proofs.Steps.{emits-emits, emits-none, Gives, andThen, same-as, events-as, moved-also, run-close, endAfter, endAfter-append, endAfter-last, Not, Some, some-last, some-end, by-word, join-first, join-last, end-last, node-bracketed, bracketed}
+use Rattle.syntax.specs.Selections.{Argument, Arguments, oneArgument, moreArguments, OptArguments, noArguments, Directive, Directives, oneDirective, moreDirectives, OptDirectives, noDirectives, noCondition, condition, noAlias, alias, SelectionSet, Selections, oneSelection, moreSelections, Selection, field, fragmentSpread, inlineFragment, OptSelectionSet, noSelectionSet, someSelectionSet, argumentTokens, argumentsTokens, optArgumentsTokens, directiveTokens, directivesTokens, optDirectivesTokens, conditionTokens, setTokens, selectionTokens, selectionsTokens, optSetTokens, argumentEvents, argumentsEvents, optArgumentsEvents, directiveEvents, directivesEvents, optDirectivesEvents, setEvents, selectionEvents, selectionsEvents, optSetEvents, argumentsDepth, optArgumentsDepth, directivesDepth, optDirectivesDepth, setDepth, selectionDepth, selectionsDepth, optSetDepth}
+use Rattle.syntax.specs.Machine.{Sym, value, name, colonDue, close, selectionSet, optSelectionSet, firstSelection, selections, named, spread, optArguments, firstArgument, arguments, optDirectives, directives, namedType, atColon, atNamedType, orSelectionSet, orSelection, atSelections, afterName, orArguments, orArgument, atArguments, orDirective, atSpread, step, Read, accepted, emits, moved, run, readSelectionSet}
+use Rattle.syntax.proofs.Steps.{emits-emits, emits-none, Gives, andThen, same-as, events-as, moved-also, run-close, endAfter, endAfter-append, endAfter-last, Not, Some, some-last, some-end, by-word, join-last, end-last, bracketed}
 use Rattle.syntax.proofs.ValueComplete.{name-read, value-some, value-read, eof-read}
 use Rattle.syntax.proofs.Forms.{aPlain, anAlias, aFragment, anInline, tailTokens, tailEvents}
 use Rattle.syntax.proofs.BackSets.{directive-events, field-events, spread-events}
@@ -163,8 +163,10 @@ first-at : (a : Span) (r : ℕ) (K : List Sym) (l : ℕ) (ts : List Token)
     → Gives (run false (optDirectives r ∷ K) l (of at a ∷ ts)) (opens 20 (a .start) ∷ []) (run false (directives r (a .start) ∷ K) l (of at a ∷ ts))
 unfolding run step orDirective
 first-at a r K l ts =
-    record { is = sym (emits-emits (opens 20 (a .start) ∷ []) (opens 21 (a .start) ∷ tokenEvent (of at a) ∷ [])
-    (run false (name ∷ optArguments r ∷ close 21 (a .start) ∷ directives r (a .start) ∷ K) (endOf (of at a)) ts)) }
+    record {
+      is = sym (emits-emits (opens 20 (a .start) ∷ []) (opens 21 (a .start) ∷ tokenEvent (of at a) ∷ [])
+          (run false (name ∷ optArguments r ∷ close 21 (a .start) ∷ directives r (a .start) ∷ K) (endOf (of at a)) ts));
+    }
 
 directives-open : (ds : Directives) (r : ℕ) (K : List Sym) (l : ℕ) (ts : List Token)
     → Gives (run false (optDirectives r ∷ K) l (directivesTokens ds ++ ts)) (opens 20 (startOf (directivesTokens ds)) ∷ []) (run false (directives r (startOf (directivesTokens ds)) ∷ K) l (directivesTokens ds ++ ts))
@@ -289,8 +291,11 @@ tail-read xs ds s r q K l ts g h f set =
     let e₂ : ℕ = endAfter e₁ (optDirectivesTokens ds) in
     let e₃ : ℕ = endAfter e₂ (optSetTokens s) in
     let us = optSetTokens s ++ ts in
-    rw (join-last (optArgumentsTokens xs) (optDirectivesTokens ds) (optSetTokens s) ts, end-last l (optArgumentsTokens xs) (optDirectivesTokens ds) (optSetTokens s),
-    join-last (optArgumentsEvents xs) (optDirectivesEvents ds) (optSetEvents s) (closes 16 q e₃ ∷ []))
+    rw (
+      join-last (optArgumentsTokens xs) (optDirectivesTokens ds) (optSetTokens s) ts,
+      end-last l (optArgumentsTokens xs) (optDirectivesTokens ds) (optSetTokens s),
+      join-last (optArgumentsEvents xs) (optDirectivesEvents ds) (optSetEvents s) (closes 16 q e₃ ∷ []),
+    )
     (andThen (optArguments-read xs r (optDirectives r ∷ optSelectionSet r ∷ close 16 q ∷ K) l (optDirectivesTokens ds ++ us) g (directives-not parenL ds us refl (set-not parenL s ts refl (f .1))))
     (andThen (optDirectives-read ds r (optSelectionSet r ∷ close 16 q ∷ K) e₁ us h (set-not parenL s ts refl (f .1)) (set-not at s ts refl (f .2)))
     (andThen (set e₂) (close-gives 16 q e₃ K ts))))
@@ -378,8 +383,10 @@ mutual
   selections-read (oneSelection x) r s K l b ts h =
       andThen (selection-read x r s K l (of braceR b ∷ ts) h (refl, refl, refl, refl)) (selections-end r s K (endAfter l (selectionTokens x)) b ts)
   selections-read (moreSelections x ss) r s K l b ts h =
-      rw (append-assoc (selectionTokens x) (selectionsTokens ss) (of braceR b ∷ ts),
-      append-assoc (selectionEvents x) (selectionsEvents ss) (tokenEvent (of braceR b) ∷ closes 15 s (endOf (of braceR b)) ∷ []))
+      rw (
+        append-assoc (selectionTokens x) (selectionsTokens ss) (of braceR b ∷ ts),
+        append-assoc (selectionEvents x) (selectionsEvents ss) (tokenEvent (of braceR b) ∷ closes 15 s (endOf (of braceR b)) ∷ []),
+      )
       (andThen (selection-read x r s K l (selectionsTokens ss ++ (of braceR b ∷ ts)) (omega arith) (follow-selections ss (of braceR b ∷ ts)))
       (selections-read ss r s K (endAfter l (selectionTokens x)) b ts (omega arith)))
 
@@ -449,6 +456,11 @@ mutual
       → Gives (run false (optSelectionSet r ∷ K) l (optSetTokens x ++ ts)) (optSetEvents x) (run false K (endAfter l (optSetTokens x)) ts)
   optSet-read noSelectionSet r K l ts h n = no-set r K l ts n
   optSet-read (someSelectionSet x) r K l ts h n = same-as (some-set x r K l ts) (set-read x r K l ts h)
+
+-- the same, said of the run
+pub set-run : (x : SelectionSet) (r : ℕ) (K : List Sym) (l : ℕ) (ts : List Token) → setDepth x ≤ r
+    → run false (selectionSet r ∷ K) l (setTokens x ++ ts) ≡ emits (setEvents x) (run false K (lastEnd (setTokens x)) ts)
+set-run x r K l ts h = set-read x r K l ts h .is ∙ ap (λ (e : ℕ). emits (setEvents x) (run false K e ts)) (some-end l (setTokens x) (set-some x))
 
 -- a selection set within the limit, then Eof, is accepted, with its events
 pub set-complete : (d : ℕ) (x : SelectionSet) (e : Token) (ts : List Token) → setDepth x ≤ d → e .kind ≡ eof → readSelectionSet d (setTokens x ++ (e ∷ ts)) ≡ accepted (setEvents x)

@@ -9,9 +9,9 @@ use borrow.Author.Tests.{eqb-true, eqb-false}
 use Rattle.base.specs.Text.{pick}
 use Rattle.base.specs.Item.{Item}
 use Rattle.syntax.specs.Token.{eof, Token, endOf}
-use Rattle.syntax.specs.Machine.{Sym, Move, go, stop, halt, also, step, Read, refused, accepted, emits, moved, run}
+use Rattle.syntax.specs.Machine.{Sym, Move, stop, halt, step, accepted, moved, run}
 use Rattle.syntax.proofs.Steps.{emits-accepted, moved-also, endAfter}
-use Rattle.syntax.proofs.Forms.{Forms, none, form, tokensOf, eventsOf}
+use Rattle.syntax.proofs.Forms.{Forms, tokensOf, eventsOf}
 use Rattle.syntax.proofs.Back.{Back, takes, refuses, passes}
 use Rattle.syntax.proofs.BackSets.{back}
 

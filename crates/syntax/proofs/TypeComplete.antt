@@ -2,15 +2,13 @@
 use Prim.Native.Nat.{ℕ, zero, suc, _≤_}
 use native.Mathlib.Omega.{arith}
 use mathlib.Core.Path.{_≡_, refl, sym, ap, ap₂, _∙_}
-use mathlib.Core.Bool.{Bool, true, false}
-use mathlib.Core.List.{List, [], _∷_, _++_, append-assoc, append-nil}
-use lib.Dec.{eqb}
+use mathlib.Core.List.{List, [], _∷_, _++_, append-assoc}
 use Rattle.base.specs.Item.{Item}
 use Rattle.syntax.specs.Token.{eof, bang, bracketL, bracketR, isName, Token, endOf, tokenEvent, opens, closes, nameEvents}
-use Rattle.syntax.specs.Grammar.{Span, of, kindOf, Name, nameToken, startOf, lastEnd, node}
+use Rattle.syntax.specs.Grammar.{Span, of, Name, nameToken, startOf, lastEnd, node}
 use Rattle.syntax.specs.Types.{Ty, nullable, nonNull, Base, namedType, listType, tyTokens, baseTokens, tyEvents, baseEvents, tyDepth, baseDepth}
-use Rattle.syntax.specs.Machine.{Read, accepted}
-use Rattle.syntax.specs.TypeReading.{TypeRead, typed, untyped, withBang, withBracket, noDepth, typeAt, wholeType, readType}
+use Rattle.syntax.specs.Machine.{accepted}
+use Rattle.syntax.specs.TypeReading.{typed, withBang, withBracket, typeAt, wholeType, readType}
 use Rattle.syntax.proofs.Steps.{lastEnd-snoc, Not, by-word, node-bracketed}
 
 -- a name is read as a type

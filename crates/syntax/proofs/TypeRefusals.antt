@@ -11,16 +11,16 @@ use borrow.Author.Tests.{eqb-true}
 use Rattle.base.specs.Text.{pick}
 use Rattle.base.specs.Item.{Item}
 use Rattle.syntax.specs.Token.{eof, bang, bracketL, bracketR, isName, Token, endOf, tokenEvent, opens, closes, nameEvents}
-use Rattle.syntax.specs.Grammar.{Span, of, Word, kindOf, Name, nameToken}
+use Rattle.syntax.specs.Grammar.{of, Word}
 use Rattle.syntax.specs.Types.{Ty, nullable, nonNull, Base, namedType, listType, tyTokens, baseTokens, tyEvents, tyDepth}
-use Rattle.syntax.specs.Machine.{Read, refused, accepted}
-use Rattle.syntax.specs.TypeReading.{TypeRead, typed, untyped, withBang, withBracket, noDepth, typeAt, wholeType, readType}
-use Rattle.syntax.proofs.Steps.{Not, by-word}
-use Rattle.syntax.proofs.Back.{is-kind, is-name}
+use Rattle.syntax.specs.Machine.{refused, accepted}
+use Rattle.syntax.specs.TypeReading.{TypeRead, typed, untyped, withBang, withBracket, typeAt, wholeType, readType}
+use Rattle.syntax.proofs.Steps.{by-word}
+use Rattle.syntax.proofs.Back.{is-kind}
 use Rattle.syntax.proofs.TypeComplete.{Stops, type-read, type-complete}
-use Rattle.syntax.proofs.TypeSound.{ReadsType, type-sound}
+use Rattle.syntax.proofs.TypeSound.{choose, ReadsType, type-sound}
 use Rattle.syntax.proofs.Depth.{NotSeven, readType-raised}
-use Rattle.syntax.proofs.Refusals.{EndsEof}
+use Rattle.syntax.proofs.Refusals.{EndsEof, not-accepted}
 
 -- ---- a type does not end in Eof
 
@@ -186,10 +186,6 @@ list-refused r t u us n p e f h (typed es k (v ∷ vs)) y ih a = by-bracket (eqb
           number = inr (sym q);
         }
 
-choose : {A : Type 0} (b : Bool) (x y z : TypeRead) → (b ≡ true → x ≡ z → A) → (b ≡ false → y ≡ z → A) → pick b x y ≡ z → A
-choose true x y z f g a = f refl a
-choose false x y z f g a = g refl a
-
 no-eof-bracket : {A : Type 0} (t : Token) → eqb (t .kind) bracketL ≡ true → t .kind ≡ eof → A
 no-eof-bracket t e h = let q = eqb-true (t .kind) bracketL e in absurd (omega arith)
 
@@ -298,9 +294,6 @@ whole-refusal d ts n p h (typed es k (v ∷ vs)) y a = by-eof (eqb (v .kind) eof
 -- a text that is refused as a type is refused at a token
 pub readType-refusal : (d : ℕ) (ts : List Token) (n p : ℕ) → EndsEof ts → readType d ts ≡ refused n p → ReadTypeRefusal d ts n p
 readType-refusal d ts n p h a = whole-refusal d ts n p h (typeAt d ts) refl a
-
-not-accepted : (a : Read) (n p : ℕ) (es : List Item) → a ≡ refused n p → a ≡ accepted es → ⊥
-not-accepted a n p es e f = let z : _≡_ {A = ℕ} 0 1 = cc in omega arith
 
 -- at a 9: with the token there they begin none, whatever its depth
 pub never-type : {d n p : ℕ} {ts : List Token} (r : ReadTypeRefusal d ts n p) → (n ≡ 7 → ⊥)

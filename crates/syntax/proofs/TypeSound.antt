@@ -3,15 +3,15 @@ use Prim.Native.Nat.{ℕ, zero, suc, _≤_}
 use native.Mathlib.Omega.{arith}
 use mathlib.Core.Path.{_≡_, refl, sym, ap, ap₂, _∙_}
 use mathlib.Core.Bool.{Bool, true, false}
-use mathlib.Core.List.{List, [], _∷_, _++_, append-assoc, append-nil}
+use mathlib.Core.List.{List, [], _∷_, _++_, append-assoc}
 use lib.Dec.{eqb}
 use borrow.Author.Tests.{eqb-true}
 use Rattle.base.specs.Text.{pick}
 use Rattle.base.specs.Item.{Item}
 use Rattle.syntax.specs.Token.{eof, bang, bracketL, bracketR, isName, Token, endOf, tokenEvent, opens, closes, nameEvents}
-use Rattle.syntax.specs.Grammar.{Span, of, Name, nameToken, startOf, lastEnd, node}
+use Rattle.syntax.specs.Grammar.{of, startOf, lastEnd}
 use Rattle.syntax.specs.Types.{Ty, nullable, nonNull, Base, namedType, listType, tyTokens, baseTokens, tyEvents, baseEvents, tyDepth, baseDepth}
-use Rattle.syntax.specs.Machine.{Read, refused, accepted}
+use Rattle.syntax.specs.Machine.{refused, accepted}
 use Rattle.syntax.specs.TypeReading.{TypeRead, typed, untyped, withBang, withBracket, noDepth, typeAt, wholeType, readType}
 use Rattle.syntax.proofs.Steps.{lastEnd-snoc, node-bracketed}
 use Rattle.syntax.proofs.Back.{is-kind, is-name}
@@ -83,16 +83,17 @@ list-sound r b us es e rest k (typed fs f (t ∷ ts)) ih a = by-bracket (eqb (t 
         let x = listType (v .0) (s .tree) (w .0) in
         let d : tyDepth (s .tree) ≤ r = s .deep in
         let i : baseEvents x ≡ opens 13 (b .start) ∷ tokenEvent b ∷ (fs ++ (tokenEvent t ∷ closes 13 (b .start) (endOf t) ∷ [])) =
-            node-bracketed 13 (of bracketL (v .0)) (of bracketR (w .0)) (tyTokens (s .tree)) (tyEvents (s .tree))
-            ∙ ap₂ (λ (p q : Token). opens 13 (p .start) ∷ tokenEvent p ∷ (tyEvents (s .tree) ++ (tokenEvent q ∷ closes 13 (p .start) (endOf q) ∷ []))) (sym (v .1)) (sym (w .1))
-            ∙ ap (λ (gs : List Item). opens 13 (b .start) ∷ tokenEvent b ∷ (gs ++ (tokenEvent t ∷ closes 13 (b .start) (endOf t) ∷ []))) (sym (s .events)) in
+        node-bracketed 13 (of bracketL (v .0)) (of bracketR (w .0)) (tyTokens (s .tree)) (tyEvents (s .tree))
+        ∙ ap₂ (λ (p q : Token). opens 13 (p .start) ∷ tokenEvent p ∷ (tyEvents (s .tree) ++ (tokenEvent q ∷ closes 13 (p .start) (endOf q) ∷ []))) (sym (v .1)) (sym (w .1))
+        ∙ ap (λ (gs : List Item). opens 13 (b .start) ∷ tokenEvent b ∷ (gs ++ (tokenEvent t ∷ closes 13 (b .start) (endOf t) ∷ []))) (sym (s .events)) in
         let j : lastEnd (baseTokens x) ≡ endOf t = lastEnd-snoc (of bracketL (v .0) ∷ tyTokens (s .tree)) (of bracketR (w .0)) ∙ ap endOf (sym (w .1)) in
         bang-sound x (suc r) (b ∷ us) ts es e rest (omega arith)
         (ap₂ (λ (p : Token) (ps : List Token). p ∷ ps) (v .1) (s .tokens ∙ ap (λ (q : Token). tyTokens (s .tree) ++ (q ∷ ts)) (w .1) ∙ sym (append-assoc (tyTokens (s .tree)) (of bracketR (w .0) ∷ []) ts)))
         (ap₂ (λ (gs : List Item) (n : ℕ). withBang (v .0 .start) gs n ts) i j ∙ ap (λ (p : Token). withBang (p .start) (opens 13 (b .start) ∷ tokenEvent b ∷ (fs ++ (tokenEvent t ∷ closes 13 (b .start) (endOf t) ∷ []))) (endOf t) ts) (sym (v .1)) ∙ a)
     by-bracket false m a = absurd (let z : _≡_ {A = ℕ} 0 1 = cc in omega arith)
 
-choose : {A : Type 0} (b : Bool) (x y z : TypeRead) → (b ≡ true → x ≡ z → A) → (b ≡ false → y ≡ z → A) → pick b x y ≡ z → A
+-- by a test
+pub choose : {A : Type 0} (b : Bool) (x y z : TypeRead) → (b ≡ true → x ≡ z → A) → (b ≡ false → y ≡ z → A) → pick b x y ≡ z → A
 choose true x y z f g a = f refl a
 choose false x y z f g a = g refl a
 

@@ -1,15 +1,15 @@
 -- Two trees of nodes and tokens with the same tokens and the same events are the same; and a value, a type or a selection set can be had back
 -- from its tree. Assumes nothing.
-use Prim.Native.Nat.{ℕ, suc, _+_, _<_, _≤_}
+use Prim.Native.Nat.{ℕ}
 use native.Mathlib.Omega.{arith}
 use mathlib.Core.Path.{_≡_, refl, sym, ap, ap₂, _∙_, subst}
 use mathlib.Core.Bool.{Bool, true, false}
 use mathlib.Core.List.{List, [], _∷_, _++_, append-assoc, append-nil}
 use lib.Dec.{T, T-prop, ltb, eqb, ltb→lt}
 use Rattle.base.specs.Text.{pick}
-use Rattle.base.specs.Item.{Item, item}
-use Rattle.syntax.specs.Token.{parenR, bracketR, braceR, wordTrue, wordFalse, wordNull, wordOn, Token, codeOf, tokenEvent, closes}
-use Rattle.syntax.specs.Grammar.{Span, of, Word, kindOf, Name, nameToken, EnumWord, enumKind, FragmentWord, fragmentKind, startOf, lastEnd, Value, variable, intValue, floatValue, stringValue, trueValue, falseValue, nullValue, enumValue, listValue, objectValue, Values, noValue, aValue, Fields, noField, aField}
+use Rattle.base.specs.Item.{Item}
+use Rattle.syntax.specs.Token.{parenR, bracketR, braceR, wordTrue, wordFalse, wordNull, wordOn, Token, closes}
+use Rattle.syntax.specs.Grammar.{Span, of, Word, kindOf, Name, nameToken, EnumWord, FragmentWord, fragmentKind, startOf, lastEnd, Value, variable, intValue, floatValue, stringValue, trueValue, falseValue, nullValue, enumValue, listValue, objectValue, Values, noValue, aValue, Fields, noField, aField}
 use Rattle.syntax.specs.Types.{Ty, nullable, nonNull, Base, namedType, listType}
 use Rattle.syntax.specs.Selections.{Argument, Arguments, oneArgument, moreArguments, OptArguments, noArguments, arguments, Directive, Directives, oneDirective, moreDirectives, OptDirectives, noDirectives, directives, noAlias, alias, OptCondition, noCondition, condition, SelectionSet, selectionSet, Selections, oneSelection, moreSelections, Selection, field, fragmentSpread, inlineFragment, OptSelectionSet, noSelectionSet, someSelectionSet}
 use Rattle.syntax.proofs.Steps.{join}
@@ -43,8 +43,8 @@ mutual
       let c = closes n (startOf (cstTokens x ++ cstsTokens xs)) (lastEnd (cstTokens x ++ cstsTokens xs)) in
       let d = closes m (startOf (cstTokens y ++ cstsTokens ys)) (lastEnd (cstTokens y ++ cstsTokens ys)) in
       let w = cst-unique x y (cstsEvents xs ++ (c ∷ es)) (cstsEvents ys ++ (d ∷ fs)) (cstsTokens xs ++ ts) (cstsTokens ys ++ us)
-          (sym (join (cstEvents x) (cstsEvents xs) (c ∷ []) es) ∙ tail-items p ∙ join (cstEvents y) (cstsEvents ys) (d ∷ []) fs)
-          (sym (append-assoc (cstTokens x) (cstsTokens xs) ts) ∙ q ∙ append-assoc (cstTokens y) (cstsTokens ys) us) in
+      (sym (join (cstEvents x) (cstsEvents xs) (c ∷ []) es) ∙ tail-items p ∙ join (cstEvents y) (cstsEvents ys) (d ∷ []) fs)
+      (sym (append-assoc (cstTokens x) (cstsTokens xs) ts) ∙ q ∙ append-assoc (cstTokens y) (cstsTokens ys) us) in
       let v = csts-unique xs ys es fs ts us n m (startOf (cstTokens x ++ cstsTokens xs)) (startOf (cstTokens y ++ cstsTokens ys)) (lastEnd (cstTokens x ++ cstsTokens xs)) (lastEnd (cstTokens y ++ cstsTokens ys)) a b (w .1) (w .2) in
       (nod-same n m a b (head-code p) (w .0) (v .0), v .1, v .2)
 
@@ -55,8 +55,8 @@ mutual
   csts-unique (some x xs) none es fs ts us n m s s′ e e′ a b p q = absurd (not-closing x fs (cstsEvents xs ++ (closes n s e ∷ es)) m s′ e′ b (sym p ∙ append-assoc (cstEvents x) (cstsEvents xs) (closes n s e ∷ es)))
   csts-unique (some x xs) (some y ys) es fs ts us n m s s′ e e′ a b p q =
       let w = cst-unique x y (cstsEvents xs ++ (closes n s e ∷ es)) (cstsEvents ys ++ (closes m s′ e′ ∷ fs)) (cstsTokens xs ++ ts) (cstsTokens ys ++ us)
-          (sym (append-assoc (cstEvents x) (cstsEvents xs) (closes n s e ∷ es)) ∙ p ∙ append-assoc (cstEvents y) (cstsEvents ys) (closes m s′ e′ ∷ fs))
-          (sym (append-assoc (cstTokens x) (cstsTokens xs) ts) ∙ q ∙ append-assoc (cstTokens y) (cstsTokens ys) us) in
+      (sym (append-assoc (cstEvents x) (cstsEvents xs) (closes n s e ∷ es)) ∙ p ∙ append-assoc (cstEvents y) (cstsEvents ys) (closes m s′ e′ ∷ fs))
+      (sym (append-assoc (cstTokens x) (cstsTokens xs) ts) ∙ q ∙ append-assoc (cstTokens y) (cstsTokens ys) us) in
       let v = csts-unique xs ys es fs ts us n m s s′ e e′ a b (w .1) (w .2) in
       (ap₂ some (w .0) (v .0), v .1, v .2)
 

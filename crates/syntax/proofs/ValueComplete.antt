@@ -1,12 +1,12 @@
 -- A value's tokens within the depth limit are read, with the value's events. Assumes nothing.
 use Prim.Native.Nat.{ℕ, zero, suc, _≤_}
 use native.Mathlib.Omega.{arith}
-use mathlib.Core.Path.{_≡_, refl, sym, ap, ap₂, _∙_}
+use mathlib.Core.Path.{_≡_, refl, sym, ap, _∙_}
 use mathlib.Core.Bool.{Bool, true, false}
 use mathlib.Core.List.{List, [], _∷_, _++_, append-assoc, append-nil}
 use Rattle.base.specs.Item.{Item}
 use Rattle.syntax.specs.Token.{eof, dollar, colon, bracketL, bracketR, braceL, braceR, string, int, float, wordTrue, wordFalse, wordNull, isName, isEnum, Token, endOf, tokenEvent, opens, closes, nameEvents}
-use Rattle.syntax.specs.Grammar.{Span, of, Word, kindOf, Name, nameToken, EnumWord, enumKind, lastEnd, node, Value, variable, intValue, floatValue, stringValue, trueValue, falseValue, nullValue, enumValue, listValue, objectValue, Values, noValue, aValue, Fields, noField, aField, valueTokens, valuesTokens, fieldsTokens, valueEvents, valuesEvents, fieldsEvents, valueDepth, valuesDepth, fieldsDepth}
+use Rattle.syntax.specs.Grammar.{Span, of, Name, nameToken, EnumWord, enumKind, lastEnd, Value, variable, intValue, floatValue, stringValue, trueValue, falseValue, nullValue, enumValue, listValue, objectValue, Values, noValue, aValue, Fields, noField, aField, valueTokens, valuesTokens, fieldsTokens, valueEvents, valuesEvents, fieldsEvents, valueDepth, valuesDepth, fieldsDepth}
 use Rattle.syntax.specs.Machine.{Sym, value, deeper, items, fields, name, colonDue, close, atValue, atItems, atFields, atName, atColon, step, Read, accepted, emits, run, readValue, readConstant}
 use Rattle.syntax.proofs.Steps.{emits-emits, run-close, Some, some-last, by-word, join, bracketed}
 
@@ -69,7 +69,7 @@ mutual
   -- whatever is due below, a value's tokens give its events and leave that due
   pub value-read : {c : Bool} (v : Value c) (r : ℕ) (K : List Sym) (l : ℕ) (ts : List Token) → valueDepth v ≤ r
       → run c (value r ∷ K) l (valueTokens v ++ ts) ≡ emits (valueEvents v) (run c K (lastEnd (valueTokens v)) ts)
-  value-read (variable d n) r K l ts h = 
+  value-read (variable d n) r K l ts h =
       ap (emits (opens 11 (d .start) ∷ tokenEvent (of dollar d) ∷ [])) (name-read false n (close 11 (d .start) ∷ K) (endOf (of dollar d)) ts ∙ ap (emits (nameEvents (nameToken n))) (run-close false 11 (d .start) (endOf (nameToken n)) K ts))
       ∙ simp emits-emits
   value-read (intValue a) r K l ts h = refl
@@ -80,9 +80,9 @@ mutual
   value-read (nullValue a) r K l ts h = refl
   value-read (enumValue EnumWord.other a) r K l ts h = refl
   value-read (enumValue EnumWord.isOn a) r K l ts h = refl
-  value-read (listValue a vs b) r K l ts h = rw (append-assoc (valuesTokens vs) (of bracketR b ∷ []) ts) (ap (emits (opens 8 (a .start) ∷ tokenEvent (of bracketL a) ∷ [])) (values-read vs r (a .start) K (endOf (of bracketL a)) b ts h) 
+  value-read (listValue a vs b) r K l ts h = rw (append-assoc (valuesTokens vs) (of bracketR b ∷ []) ts) (ap (emits (opens 8 (a .start) ∷ tokenEvent (of bracketL a) ∷ [])) (values-read vs r (a .start) K (endOf (of bracketL a)) b ts h)
       ∙ bracketed _ 8 (of bracketL a) (of bracketR b) (valuesTokens vs) ts (valuesEvents vs) K)
-  value-read (objectValue a fs b) r K l ts h = rw (append-assoc (fieldsTokens fs) (of braceR b ∷ []) ts) (ap (emits (opens 9 (a .start) ∷ tokenEvent (of braceL a) ∷ [])) (fields-read fs r (a .start) K (endOf (of braceL a)) b ts h) 
+  value-read (objectValue a fs b) r K l ts h = rw (append-assoc (fieldsTokens fs) (of braceR b ∷ []) ts) (ap (emits (opens 9 (a .start) ∷ tokenEvent (of braceL a) ∷ [])) (fields-read fs r (a .start) K (endOf (of braceL a)) b ts h)
       ∙ bracketed _ 9 (of braceL a) (of braceR b) (fieldsTokens fs) ts (fieldsEvents fs) K)
 
   -- a list's further items and its `]`
@@ -90,7 +90,7 @@ mutual
       → run c (items r s ∷ K) l (valuesTokens vs ++ (of bracketR b ∷ ts)) ≡ emits (valuesEvents vs ++ (tokenEvent (of bracketR b) ∷ closes 8 s (endOf (of bracketR b)) ∷ [])) (run c K (endOf (of bracketR b)) ts)
   values-read noValue r s K l b ts h = refl
   values-read (aValue v vs) zero s K l b ts h = absurd (omega arith)
-  values-read (aValue v vs) (suc r) s K l b ts h = 
+  values-read (aValue v vs) (suc r) s K l b ts h =
       rw (append-assoc (valueTokens v) (valuesTokens vs) (of bracketR b ∷ ts))
       (as-item v r s K l (valuesTokens vs ++ (of bracketR b ∷ ts))
       ∙ value-read v r (items (suc r) s ∷ K) l (valuesTokens vs ++ (of bracketR b ∷ ts)) (omega arith)
@@ -102,7 +102,7 @@ mutual
       → run c (fields r s ∷ K) l (fieldsTokens fs ++ (of braceR b ∷ ts)) ≡ emits (fieldsEvents fs ++ (tokenEvent (of braceR b) ∷ closes 9 s (endOf (of braceR b)) ∷ [])) (run c K (endOf (of braceR b)) ts)
   fields-read {c} noField r s K l b ts h = refl
   fields-read {c} (aField n k v fs) zero s K l b ts h = absurd (omega arith)
-  fields-read {c} (aField n k v fs) (suc r) s K l b ts h = 
+  fields-read {c} (aField n k v fs) (suc r) s K l b ts h =
       rw (append-assoc (valueTokens v) (fieldsTokens fs) (of braceR b ∷ ts), some-last (of colon k) (valueTokens v) (value-some v))
       (field-name _ n (suc r) s K l (of colon k ∷ (valueTokens v ++ (fieldsTokens fs ++ (of braceR b ∷ ts))))
       ∙ ap (λ (a : Read). emits (opens 10 (n .span .start) ∷ nameEvents (nameToken n)) (emits (tokenEvent (of colon k) ∷ []) a))

@@ -1,6 +1,6 @@
 -- What is read where a value is due is a value within the depth limit, with its events. Assumes nothing.
 use Prim.Native.Nat.{ℕ, _≤_}
-use mathlib.Core.Path.{_≡_, refl, sym, ap, _∙_}
+use mathlib.Core.Path.{_≡_, ap, _∙_}
 use mathlib.Core.Bool.{Bool, true, false}
 use mathlib.Core.List.{List, [], _∷_, _++_, append-nil}
 use Rattle.base.specs.Item.{Item}
@@ -71,7 +71,6 @@ readValue-sound d ts es a = whole-value false d ts es a
 -- what is accepted as a constant is a constant
 pub readConstant-sound : (d : ℕ) (ts : List Token) (es : List Item) → readConstant d ts ≡ accepted es → WholeValue true d ts es
 readConstant-sound d ts es a = whole-value true d ts es a
-
 
 -- a text whose last token, and no other, is Eof: accepted as a value, its other tokens are just a value's
 pub value-exact : (c : Bool) (d : ℕ) (us : List Token) (e : Token) (es : List Item) → NoEof us → run c (value d ∷ []) 0 (us ++ (e ∷ [])) ≡ accepted es
