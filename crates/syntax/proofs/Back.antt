@@ -32,11 +32,13 @@ word-of k e =
     (λ b. by (eqb k wordNull) (λ q. (Word.isNull, eqb-true k wordNull q))
     (λ d. (Word.isOn, omega (arith, eqb-false k wordTrue a, eqb-false k wordFalse b, eqb-false k wordNull d))))))
 
+-- a name
 pub is-name : (t : Token) → isName (t .kind) ≡ true → (n : Name) × (t ≡ nameToken n)
 is-name t e =
     let w = word-of (t .kind) e in
     (record { word = w .0; span = record { start = t .start; size = t .size } }, ap (λ (j : ℕ). token j (t .start) (t .size)) (w .1))
 
+-- a name that an enum value may be
 pub is-enum : (t : Token) → isEnum (t .kind) ≡ true → (w : EnumWord) × (s : Span) × (t ≡ of (enumKind w) s)
 unfolding isEnum
 is-enum t e =
@@ -44,6 +46,7 @@ is-enum t e =
     (λ p. let s = is-kind plain t p in (EnumWord.other, s .0, s .1))
     (λ p. let s = is-kind wordOn t p in (EnumWord.isOn, s .0, s .1))
 
+-- a name that a fragment may have
 pub is-fragment : (t : Token) → isFragmentName (t .kind) ≡ true → (w : FragmentWord) × (s : Span) × (t ≡ of (fragmentKind w) s)
 unfolding isFragmentName
 is-fragment t e =
@@ -68,11 +71,13 @@ pub data Back (c : Bool) (l : ℕ) (t : Token) (P K : List Sym) (m : Move) : Typ
   -- P has no token here, and t is for what lies below
   passes : (es : List Item) → m ≡ also es (step c l K t) → (G : Forms c P) → tokensOf G ≡ [] → eventsOf l G ≡ es → Back c l t P K m
 
+-- no events before a move
 pub also-none : (m : Move) → also [] m ≡ m
 also-none (go es K) = refl
 also-none (stop n) = refl
 also-none (halt es) = refl
 
+-- events before events before a move
 pub also-also : (es fs : List Item) (m : Move) → also es (also fs m) ≡ also (es ++ fs) m
 also-also es fs (go gs K) = ap (λ (hs : List Item). go hs K) (sym (append-assoc es fs gs))
 also-also es fs (stop n) = refl

@@ -220,6 +220,7 @@ field-tokens : {c : Bool} {r : ℕ} (n : Name) (f : Form c (named r (nameToken n
 field-tokens n (aPlain xs ds s g h i) = refl
 field-tokens n (anAlias k m xs ds s g h i) = refl
 
+-- a field's events, in the order of reading
 pub field-events : {c : Bool} {r : ℕ} (n : Name) (f : Form c (named r (nameToken n))) → selectionEvents (fieldOf n f) ≡ formEvents (endOf (nameToken n)) f
 field-events n (aPlain xs ds s g h i) = rw (← endAfter-last 0 (nameToken n) (tailTokens xs ds s))
 field-events n (anAlias k m xs ds s g h i) = rw (← endAfter-last 0 (nameToken m) (tailTokens xs ds s))
@@ -236,6 +237,7 @@ spread-tokens : {c : Bool} {r : ℕ} (d : Span) (f : Form c (spread r (of dots d
 spread-tokens d (aFragment w n ds h) = refl
 spread-tokens d (anInline k ds s g h) = refl
 
+-- a fragment's events, in the order of reading
 pub spread-events : {c : Bool} {r : ℕ} (d : Span) (f : Form c (spread r (of dots d))) → selectionEvents (spreadOf d f) ≡ formEvents (endOf (of dots d)) f
 spread-events d (aFragment w n ds h) = rw (← endAfter-last 0 (of (fragmentKind w) n) (optDirectivesTokens ds))
 spread-events d (anInline k ds s g h) = rw (← endAfter-last 0 (of dots d) (conditionTokens k ++ (optDirectivesTokens ds ++ setTokens s)))

@@ -46,10 +46,12 @@ mutual
   value-few (listValue l vs r) = few-bracketed 8 (of bracketL l) (of bracketR r) (valuesTokens vs) (valueTokens (listValue l vs r)) (valuesEvents vs) (values-few vs)
   value-few (objectValue l fs r) = few-bracketed 9 (of braceL l) (of braceR r) (fieldsTokens fs) (valueTokens (objectValue l fs r)) (fieldsEvents fs) (fields-few fs)
 
+  -- those of a list's items
   pub values-few : {c : Bool} (vs : Values c) → Few (valuesEvents vs) (valuesTokens vs)
   values-few noValue = omega arith
   values-few (aValue v vs) = few-append (valueEvents v) (valuesEvents vs) (valueTokens v) (valuesTokens vs) (value-few v) (values-few vs)
 
+  -- those of an object's fields
   pub fields-few : {c : Bool} (fs : Fields c) → Few (fieldsEvents fs) (fieldsTokens fs)
   fields-few noField = omega arith
   fields-few (aField n k v fs) =
@@ -65,6 +67,7 @@ mutual
       let h = base-few b in
       omega (arith, node-length 14 (baseTokens b ++ (of bang s ∷ [])) (baseEvents b ++ (tokenEvent (of bang s) ∷ [])), length-append (baseEvents b) (tokenEvent (of bang s) ∷ []), length-append (baseTokens b) (of bang s ∷ []))
 
+  -- those of a type without its `!`
   pub base-few : (b : Base) → Few (baseEvents b) (baseTokens b)
   base-few (namedType n) = omega arith
   base-few (listType l t r) = few-bracketed 13 (of bracketL l) (of bracketR r) (tyTokens t) (baseTokens (listType l t r)) (tyEvents t) (ty-few t)
@@ -110,10 +113,12 @@ mutual
   pub set-few : (s : SelectionSet) → Few (setEvents s) (setTokens s)
   set-few (selectionSet l ss r) = few-bracketed 15 (of braceL l) (of braceR r) (selectionsTokens ss) (setTokens (selectionSet l ss r)) (selectionsEvents ss) (selections-few ss)
 
+  -- those of some selections
   pub selections-few : (ss : Selections) → Few (selectionsEvents ss) (selectionsTokens ss)
   selections-few (oneSelection s) = selection-few s
   selections-few (moreSelections s ss) = few-append (selectionEvents s) (selectionsEvents ss) (selectionTokens s) (selectionsTokens ss) (selection-few s) (selections-few ss)
 
+  -- those of a selection
   pub selection-few : (s : Selection) → Few (selectionEvents s) (selectionTokens s)
   selection-few (field a n xs ds s) =
       let us = optArgumentsTokens xs ++ (optDirectivesTokens ds ++ optSetTokens s) in
@@ -134,6 +139,7 @@ mutual
       few-append (conditionEvents c) es (conditionTokens c) us (condition-few c) (few-append (optDirectivesEvents ds) (setEvents s) (optDirectivesTokens ds) (setTokens s) (optDirectives-few ds) (set-few s)) in
       omega (arith, node-length 24 (of dots d ∷ (conditionTokens c ++ us)) (tokenEvent (of dots d) ∷ (conditionEvents c ++ es)))
 
+  -- those of a selection set, or none
   pub optSet-few : (s : OptSelectionSet) → Few (optSetEvents s) (optSetTokens s)
   optSet-few noSelectionSet = omega arith
   optSet-few (someSelectionSet s) = set-few s

@@ -21,19 +21,23 @@ mutual
     some : Cst → Csts → Csts
 
 abbrev mutual
+  -- the tokens of a tree
   pub cstTokens : Cst → List Token
   cstTokens (tok t) = t ∷ []
   cstTokens (nod n p x xs) = cstTokens x ++ cstsTokens xs
 
+  -- those of some trees
   pub cstsTokens : Csts → List Token
   cstsTokens none = []
   cstsTokens (some x xs) = cstTokens x ++ cstsTokens xs
 
 abbrev mutual
+  -- the events of a tree
   pub cstEvents : Cst → List Item
   cstEvents (tok t) = tokenEvent t ∷ []
   cstEvents (nod n p x xs) = node n (cstTokens x ++ cstsTokens xs) (cstEvents x ++ cstsEvents xs)
 
+  -- those of some trees
   pub cstsEvents : Csts → List Item
   cstsEvents none = []
   cstsEvents (some x xs) = cstEvents x ++ cstsEvents xs
@@ -42,10 +46,12 @@ abbrev pub cat : Csts → Csts → Csts
 cat none ys = ys
 cat (some x xs) ys = some x (cat xs ys)
 
+-- the tokens of trees after trees
 pub cat-tokens : (xs ys : Csts) → cstsTokens (cat xs ys) ≡ cstsTokens xs ++ cstsTokens ys
 cat-tokens none ys = refl
 cat-tokens (some x xs) ys = ap (λ (ts : List Token). cstTokens x ++ ts) (cat-tokens xs ys) ∙ sym (append-assoc (cstTokens x) (cstsTokens xs) (cstsTokens ys))
 
+-- the events of trees after trees
 pub cat-events : (xs ys : Csts) → cstsEvents (cat xs ys) ≡ cstsEvents xs ++ cstsEvents ys
 cat-events none ys = refl
 cat-events (some x xs) ys = ap (λ (ts : List Item). cstEvents x ++ ts) (cat-events xs ys) ∙ sym (append-assoc (cstEvents x) (cstsEvents xs) (cstsEvents ys))
@@ -93,6 +99,7 @@ is-name t = is-around 1 tt (is-tok t)
 -- ---- values
 
 abbrev mutual
+  -- a value's tree
   pub valueCst : {c : Bool} → Value c → Cst
   valueCst (variable d n) = nod 11 tt (tok (of dollar d)) (some (nameCst (nameToken n)) none)
   valueCst (intValue s) = nod 2 tt (tok (of int s)) none
@@ -105,10 +112,12 @@ abbrev mutual
   valueCst (listValue l vs r) = nod 8 tt (tok (of bracketL l)) (cat (valuesCst vs) (some (tok (of bracketR r)) none))
   valueCst (objectValue l fs r) = nod 9 tt (tok (of braceL l)) (cat (fieldsCst fs) (some (tok (of braceR r)) none))
 
+  -- the trees of a list's items
   pub valuesCst : {c : Bool} → Values c → Csts
   valuesCst noValue = none
   valuesCst (aValue v vs) = some (valueCst v) (valuesCst vs)
 
+  -- the trees of an object's fields
   pub fieldsCst : {c : Bool} → Fields c → Csts
   fieldsCst noField = none
   fieldsCst (aField n k v fs) = some (nod 10 tt (nameCst (nameToken n)) (some (tok (of colon k)) (some (valueCst v) none))) (fieldsCst fs)
@@ -127,10 +136,12 @@ mutual
   is-value (listValue l vs r) = is-node 8 tt (is-tok (of bracketL l)) (are-cat (are-values vs) (are-one (is-tok (of bracketR r))))
   is-value (objectValue l fs r) = is-node 9 tt (is-tok (of braceL l)) (are-cat (are-fields fs) (are-one (is-tok (of braceR r))))
 
+  -- so have a list's items
   pub are-values : {c : Bool} (vs : Values c) → Are (valuesCst vs) (valuesTokens vs) (valuesEvents vs)
   are-values noValue = are-none
   are-values (aValue v vs) = are-some (is-value v) (are-values vs)
 
+  -- so have an object's fields
   pub are-fields : {c : Bool} (fs : Fields c) → Are (fieldsCst fs) (fieldsTokens fs) (fieldsEvents fs)
   are-fields noField = are-none
   are-fields (aField n k v fs) = are-some (is-node 10 tt (is-name (nameToken n)) (are-some (is-tok (of colon k)) (are-one (is-value v)))) (are-fields fs)
@@ -138,10 +149,12 @@ mutual
 -- ---- types
 
 abbrev mutual
+  -- a type's tree
   pub tyCst : Ty → Cst
   tyCst (nullable b) = baseCst b
   tyCst (nonNull b s) = nod 14 tt (baseCst b) (some (tok (of bang s)) none)
 
+  -- the tree of a type without its `!`
   pub baseCst : Base → Cst
   baseCst (namedType n) = nod 12 tt (nameCst (nameToken n)) none
   baseCst (listType l t r) = nod 13 tt (tok (of bracketL l)) (some (tyCst t) (some (tok (of bracketR r)) none))
@@ -152,6 +165,7 @@ mutual
   is-ty (nullable b) = is-base b
   is-ty (nonNull b s) = is-node 14 tt (is-base b) (are-one (is-tok (of bang s)))
 
+  -- so has a type without its `!`
   pub is-base : (b : Base) → Is (baseCst b) (baseTokens b) (baseEvents b)
   is-base (namedType n) = is-around 12 tt (is-name (nameToken n))
   is-base (listType l t r) = is-node 13 tt (is-tok (of bracketL l)) (are-some (is-ty t) (are-one (is-tok (of bracketR r))))
@@ -213,13 +227,16 @@ are-condition noCondition = are-none
 are-condition (condition o n) = are-one (is-node 25 tt (is-tok (of wordOn o)) (are-one (is-around 12 tt (is-name (nameToken n)))))
 
 abbrev mutual
+  -- a selection set's tree
   pub setCst : SelectionSet → Cst
   setCst (selectionSet l ss r) = nod 15 tt (tok (of braceL l)) (cat (selectionsCst ss) (some (tok (of braceR r)) none))
 
+  -- the trees of some selections
   pub selectionsCst : Selections → Csts
   selectionsCst (oneSelection s) = some (selectionCst s) none
   selectionsCst (moreSelections s ss) = some (selectionCst s) (selectionsCst ss)
 
+  -- a selection's tree
   pub selectionCst : Selection → Cst
   selectionCst (field noAlias n xs ds s) = nod 16 tt (nameCst (nameToken n)) (cat (optArgumentsCst xs) (cat (optDirectivesCst ds) (optSetCst s)))
   selectionCst (field (alias m k) n xs ds s) =
@@ -227,6 +244,7 @@ abbrev mutual
   selectionCst (fragmentSpread d w n ds) = nod 22 tt (tok (of dots d)) (some (nod 23 tt (nameCst (of (fragmentKind w) n)) none) (optDirectivesCst ds))
   selectionCst (inlineFragment d k ds s) = nod 24 tt (tok (of dots d)) (cat (conditionCst k) (cat (optDirectivesCst ds) (some (setCst s) none)))
 
+  -- a selection set's tree, or none
   pub optSetCst : OptSelectionSet → Csts
   optSetCst noSelectionSet = none
   optSetCst (someSelectionSet s) = some (setCst s) none

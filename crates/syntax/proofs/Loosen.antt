@@ -8,6 +8,7 @@ use Rattle.syntax.specs.Token.{colon, bracketL, bracketR, braceL, braceR
 use Rattle.syntax.specs.Grammar.{of, nameToken, node, Value, variable, intValue, floatValue, stringValue, trueValue, falseValue, nullValue, enumValue, listValue, objectValue, Values, noValue, aValue, Fields, noField, aField, valueTokens, valuesTokens, fieldsTokens, valueEvents, valuesEvents, fieldsEvents, valueDepth, valuesDepth, fieldsDepth}
 
 abbrev mutual
+  -- a value of either constness as a value
   pub loosen : {c : Bool} → Value c → Value false
   loosen (variable d n) = variable d n
   loosen (intValue s) = intValue s
@@ -20,10 +21,12 @@ abbrev mutual
   loosen (listValue l vs r) = listValue l (loosens vs) r
   loosen (objectValue l fs r) = objectValue l (loosenFields fs) r
 
+  -- a list's items
   pub loosens : {c : Bool} → Values c → Values false
   loosens noValue = noValue
   loosens (aValue v vs) = aValue (loosen v) (loosens vs)
 
+  -- an object's fields
   pub loosenFields : {c : Bool} → Fields c → Fields false
   loosenFields noField = noField
   loosenFields (aField n k v fs) = aField n k (loosen v) (loosenFields fs)

@@ -263,6 +263,15 @@ begins-value c d us vs (form (aValue v h) none) e = record { tree = v; deep = h;
 pub viable-value : {c : Bool} {d n p : ℕ} {ts : List Token} (r : Refusal c (value d ∷ []) 0 ts n p) → BeginsValue c (suc d) (r .before)
 viable-value {c} {d} r = let w = r .begins (least c (r .due)) in begins-value c (suc d) (r .before) (tokensOf (least c (r .due))) (w .0) (w .1)
 
+-- so there is a continuation that is accepted, with one level more
+pub goes-on-value : {c : Bool} {d n p : ℕ} {ts : List Token} (r : Refusal c (value d ∷ []) 0 ts n p) (e : Token) → e .kind ≡ eof
+    → (ws : List Token) × (es : List Item) × (run c (value (suc d) ∷ []) 0 (r .before ++ (ws ++ (e ∷ []))) ≡ accepted es)
+goes-on-value {c} {d} r e k =
+    let b = viable-value r in
+    (b .rest, valueEvents (b .tree),
+    ap (run c (value (suc d) ∷ []) 0) (sym (append-assoc (r .before) (b .rest) (e ∷ [])) ∙ ap (λ (us : List Token). us ++ (e ∷ [])) (sym (b .tokens)))
+    ∙ value-accepted (suc d) (b .tree) e [] (b .deep) k)
+
 -- at a 9 or an 8: with the token there they begin none, whatever its depth
 pub never-value : {c : Bool} {d n p : ℕ} {ts : List Token} (r : Refusal c (value d ∷ []) 0 ts n p) → (n ≡ 7 → ⊥)
     → (u : Value c) (e : Token) (vs ws : List Token) → e .kind ≡ eof → valueTokens u ++ (e ∷ vs) ≡ r .before ++ (r .here ∷ ws) → ⊥
@@ -295,6 +304,15 @@ begins-set c d us vs (form (aSet s h) none) e = record { tree = s; deep = h; res
 -- at any refusal: the tokens before the place begin a selection set, with one level more at most
 pub viable-set : {d n p : ℕ} {ts : List Token} (r : Refusal false (selectionSet d ∷ []) 0 ts n p) → BeginsSet (suc d) (r .before)
 viable-set {d} r = let w = r .begins (least false (r .due)) in begins-set false (suc d) (r .before) (tokensOf (least false (r .due))) (w .0) (w .1)
+
+-- so there is a continuation that is accepted, with one level more
+pub goes-on-set : {d n p : ℕ} {ts : List Token} (r : Refusal false (selectionSet d ∷ []) 0 ts n p) (e : Token) → e .kind ≡ eof
+    → (ws : List Token) × (es : List Item) × (readSelectionSet (suc d) (r .before ++ (ws ++ (e ∷ []))) ≡ accepted es)
+goes-on-set {d} r e k =
+    let b = viable-set r in
+    (b .rest, setEvents (b .tree),
+    ap (readSelectionSet (suc d)) (sym (append-assoc (r .before) (b .rest) (e ∷ [])) ∙ ap (λ (us : List Token). us ++ (e ∷ [])) (sym (b .tokens)))
+    ∙ set-complete (suc d) (b .tree) e [] (b .deep) k)
 
 -- at a 9: with the token there they begin none, whatever its depth
 pub never-set : {d n p : ℕ} {ts : List Token} (r : Refusal false (selectionSet d ∷ []) 0 ts n p) → (n ≡ 7 → ⊥)

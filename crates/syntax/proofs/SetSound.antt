@@ -27,6 +27,7 @@ pub record ReadsSet (c : Bool) (r : ℕ) (K : List Sym) (ts : List Token) (es : 
   pub events : es ≡ setEvents tree ++ others
   pub goes : run c K (lastEnd (setTokens tree)) rest ≡ accepted others
 
+-- what is accepted where a selection set is due begins with a selection set within the depth that is left
 pub set-sound : (c : Bool) (r : ℕ) (K : List Sym) (l : ℕ) (ts : List Token) (es : List Item) → run c (selectionSet r ∷ K) l ts ≡ accepted es → ReadsSet c r K ts es
 set-sound c r K l ts es e = of (s .forms) (s .tokens) (s .events) (s .goes)
   where

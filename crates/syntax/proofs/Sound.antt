@@ -72,6 +72,7 @@ abbrev pub NoEof : List Token → Type 0
 NoEof [] = Unit {0}
 NoEof (t ∷ ts) = (eqb (t .kind) eof ≡ false) × NoEof ts
 
+-- what stands before the only Eof
 pub split-eof : (us vs ws : List Token) (e f : Token) → NoEof us → f .kind ≡ eof → us ++ (e ∷ []) ≡ vs ++ (f ∷ ws) → us ≡ vs
 split-eof [] [] ws e f n k q = refl
 split-eof [] (v ∷ []) ws e f n k q = absurd (let z : _≡_ {A = ℕ} 0 1 = cc in omega arith)

@@ -27,9 +27,11 @@ pub record Gives (a : Read) (es : List Item) (b : Read) : Type 0 where
 pub andThen : {a b d : Read} {es fs : List Item} → Gives a es b → Gives b fs d → Gives a (es ++ fs) d
 andThen {d = d} {es = es} {fs = fs} p q = record { is = p .is ∙ ap (emits es) (q .is) ∙ emits-emits es fs d }
 
+-- a reading that is another one
 pub same-as : {a b d : Read} {es : List Item} → a ≡ b → Gives b es d → Gives a es d
 same-as p q = record { is = p ∙ q .is }
 
+-- with the same events
 pub events-as : {a b : Read} {es fs : List Item} → es ≡ fs → Gives a fs b → Gives a es b
 events-as p q = rw p q
 
@@ -60,6 +62,7 @@ abbrev pub endAfter : ℕ → List Token → ℕ
 endAfter l [] = l
 endAfter l (t ∷ ts) = endAfter (endOf t) ts
 
+-- where the last of tokens after tokens ends
 pub endAfter-append : (l : ℕ) (ts us : List Token) → endAfter l (ts ++ us) ≡ endAfter (endAfter l ts) us
 endAfter-append l [] us = refl
 endAfter-append l (t ∷ ts) us = endAfter-append (endOf t) ts us
@@ -78,12 +81,15 @@ Not k (t ∷ ts) = eqb (t .kind) k ≡ false
 abbrev pub Some : List Token → Type 0
 Some ts = (t : Token) × (us : List Token) × (ts ≡ t ∷ us)
 
+-- another token before some does not change where the last ends
 pub some-last : (t : Token) (ts : List Token) → Some ts → lastEnd (t ∷ ts) ≡ lastEnd ts
 some-last t ts s = rw (s .2)
 
+-- the end after some tokens is the end of the last
 pub some-end : (l : ℕ) (ts : List Token) → Some ts → endAfter l ts ≡ lastEnd ts
 some-end l ts s = rw (s .2) (endAfter-last l (s .0) (s .1))
 
+-- the last token is the last
 pub lastEnd-snoc : (ts : List Token) (t : Token) → lastEnd (ts ++ (t ∷ [])) ≡ endOf t
 lastEnd-snoc [] t = refl
 lastEnd-snoc (u ∷ []) t = refl
@@ -101,15 +107,19 @@ by-word P a b c d e Word.isOn = e
 pub join : {A : Type 0} (w x y z : List A) → ((w ++ x) ++ y) ++ z ≡ w ++ (x ++ (y ++ z))
 join w x y z = append-assoc (w ++ x) y z ∙ append-assoc w x (y ++ z)
 
+-- the same, the middle ones together
 pub join-first : {A : Type 0} (w x y z : List A) → ((w ++ x) ++ y) ++ z ≡ w ++ ((x ++ y) ++ z)
 join-first {A} w x y z = ap (λ (l : List A). l ++ z) (append-assoc w x y) ∙ append-assoc w (x ++ y) z
 
+-- the same, the last ones together first
 pub join-last : {A : Type 0} (w x y z : List A) → (w ++ (x ++ y)) ++ z ≡ w ++ (x ++ (y ++ z))
 join-last {A} w x y z = append-assoc w (x ++ y) z ∙ ap (λ (l : List A). w ++ l) (append-assoc x y z)
 
+-- the end after joined tokens
 pub end-join : (l : ℕ) (x y z : List Token) → endAfter l ((x ++ y) ++ z) ≡ endAfter (endAfter l x) (y ++ z)
 end-join l x y z = ap (endAfter l) (append-assoc x y z) ∙ endAfter-append l x (y ++ z)
 
+-- the end after three runs of tokens
 pub end-last : (l : ℕ) (x y z : List Token) → endAfter l (x ++ (y ++ z)) ≡ endAfter (endAfter (endAfter l x) y) z
 end-last l x y z = endAfter-append l x (y ++ z) ∙ endAfter-append (endAfter l x) y z
 

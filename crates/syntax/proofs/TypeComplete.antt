@@ -45,6 +45,7 @@ abbrev pub Stops : Ty → List Token → Type 0
 Stops (nullable b) ts = Not bang ts
 Stops (nonNull b s) ts = Unit {0}
 
+-- before anything but a `!` every type ends
 pub stops : (t : Ty) (ts : List Token) → Not bang ts → Stops t ts
 stops (nullable b) ts n = n
 stops (nonNull b s) ts n = tt

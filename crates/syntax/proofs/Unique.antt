@@ -493,11 +493,14 @@ mutual
 
 -- ---- the same tokens and events
 
+-- values with the same tree are the same
 pub same-value : {c : Bool} (v u : Value c) → valueCst v ≡ valueCst u → v ≡ u
 same-value {c} v u e = sym (value-back v) ∙ ap (unValue c) e ∙ value-back u
 
+-- types with the same tree are the same
 pub same-ty : (t u : Ty) → tyCst t ≡ tyCst u → t ≡ u
 same-ty t u e = sym (ty-back t) ∙ ap unTy e ∙ ty-back u
 
+-- selection sets with the same tree are the same
 pub same-set : (s r : SelectionSet) → setCst s ≡ setCst r → s ≡ r
 same-set s r e = sym (set-back s) ∙ ap unSet e ∙ set-back r

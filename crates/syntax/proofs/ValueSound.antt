@@ -22,6 +22,7 @@ pub record ReadsValue (c : Bool) (r : ℕ) (K : List Sym) (ts : List Token) (es 
   pub events : es ≡ valueEvents tree ++ others
   pub goes : run c K (lastEnd (valueTokens tree)) rest ≡ accepted others
 
+-- what is accepted where a value is due begins with a value within the depth that is left
 pub value-sound : (c : Bool) (r : ℕ) (K : List Sym) (l : ℕ) (ts : List Token) (es : List Item) → run c (value r ∷ K) l ts ≡ accepted es → ReadsValue c r K ts es
 value-sound c r K l ts es e = of (s .forms) (s .tokens) (s .events) (s .goes)
   where
@@ -50,6 +51,7 @@ pub record WholeValue (c : Bool) (d : ℕ) (ts : List Token) (es : List Item) : 
   pub tokens : ts ≡ valueTokens tree ++ (end ∷ rest)
   pub events : es ≡ valueEvents tree
 
+-- a value of either constness that fills the text
 pub whole-value : (c : Bool) (d : ℕ) (ts : List Token) (es : List Item) → run c (value d ∷ []) 0 ts ≡ accepted es → WholeValue c d ts es
 whole-value c d ts es a =
     let s = value-sound c d [] 0 ts es a in
