@@ -267,10 +267,12 @@ viable-value {c} {d} r = let w = r .begins (least c (r .due)) in begins-value c 
 pub goes-on-value : {c : Bool} {d n p : ℕ} {ts : List Token} (r : Refusal c (value d ∷ []) 0 ts n p) (e : Token) → e .kind ≡ eof
     → (ws : List Token) × (es : List Item) × (run c (value (suc d) ∷ []) 0 (r .before ++ (ws ++ (e ∷ []))) ≡ accepted es)
 goes-on-value {c} {d} r e k =
-    let b = viable-value r in
-    (b .rest, valueEvents (b .tree),
-    ap (run c (value (suc d) ∷ []) 0) (sym (append-assoc (r .before) (b .rest) (e ∷ [])) ∙ ap (λ (us : List Token). us ++ (e ∷ [])) (sym (b .tokens)))
-    ∙ value-accepted (suc d) (b .tree) e [] (b .deep) k)
+    let b = viable-value r in (
+      b .rest,
+      valueEvents (b .tree),
+      ap (run c (value (suc d) ∷ []) 0) (sym (append-assoc (r .before) (b .rest) (e ∷ [])) ∙ ap (λ (us : List Token). us ++ (e ∷ [])) (sym (b .tokens)))
+          ∙ value-accepted (suc d) (b .tree) e [] (b .deep) k,
+    )
 
 -- at a 9 or an 8: with the token there they begin none, whatever its depth
 pub never-value : {c : Bool} {d n p : ℕ} {ts : List Token} (r : Refusal c (value d ∷ []) 0 ts n p) → (n ≡ 7 → ⊥)
@@ -309,10 +311,12 @@ viable-set {d} r = let w = r .begins (least false (r .due)) in begins-set false 
 pub goes-on-set : {d n p : ℕ} {ts : List Token} (r : Refusal false (selectionSet d ∷ []) 0 ts n p) (e : Token) → e .kind ≡ eof
     → (ws : List Token) × (es : List Item) × (readSelectionSet (suc d) (r .before ++ (ws ++ (e ∷ []))) ≡ accepted es)
 goes-on-set {d} r e k =
-    let b = viable-set r in
-    (b .rest, setEvents (b .tree),
-    ap (readSelectionSet (suc d)) (sym (append-assoc (r .before) (b .rest) (e ∷ [])) ∙ ap (λ (us : List Token). us ++ (e ∷ [])) (sym (b .tokens)))
-    ∙ set-complete (suc d) (b .tree) e [] (b .deep) k)
+    let b = viable-set r in (
+      b .rest,
+      setEvents (b .tree),
+      ap (readSelectionSet (suc d)) (sym (append-assoc (r .before) (b .rest) (e ∷ [])) ∙ ap (λ (us : List Token). us ++ (e ∷ [])) (sym (b .tokens)))
+          ∙ set-complete (suc d) (b .tree) e [] (b .deep) k,
+    )
 
 -- at a 9: with the token there they begin none, whatever its depth
 pub never-set : {d n p : ℕ} {ts : List Token} (r : Refusal false (selectionSet d ∷ []) 0 ts n p) → (n ≡ 7 → ⊥)
