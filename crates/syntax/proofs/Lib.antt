@@ -20,3 +20,4 @@ pub mod Unique
 pub mod OneReading
 pub mod Refusals
 pub mod TypeRefusals
+pub mod TextTokens

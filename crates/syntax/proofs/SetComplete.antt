@@ -1,5 +1,5 @@
--- A selection set's tokens within the depth limit are read, with its events. Assumes nothing.
--- An optional part that is missing must not be followed by a token that would begin it: `Not`.
+-- A selection set's tokens within the depth limit are read, with its events. An optional part that is missing must not be followed by a token
+-- that would begin it: `Not`. Assumes nothing.
 use Prim.Native.Nat.{ℕ, zero, suc, _≤_}
 use native.Mathlib.Omega.{arith}
 use mathlib.Core.Path.{_≡_, refl, sym, ap, _∙_}
