@@ -1,0 +1,6 @@
+-- Laws of the grammar's entries.
+pub mod Errors
+pub mod Fits
+pub mod Readings
+pub mod Rows
+pub mod Starts

@@ -1,0 +1,3 @@
+-- What the grammar's entries answer.
+pub mod Answers
+pub mod Promise
