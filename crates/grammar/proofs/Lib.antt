@@ -4,3 +4,4 @@ pub mod Fits
 pub mod Readings
 pub mod Rows
 pub mod Starts
+pub mod Laws

@@ -1,0 +1,126 @@
+-- The entries accept just the sentences, and the event tape holds the one tree's events. Assumes nothing.
+use Prim.Native.Nat.{ℕ, _+_, _≤_, _<_, min}
+use mathlib.Core.Path.{_≡_, refl, sym, ap, _∙_}
+use mathlib.Core.Bool.{Bool, true, false}
+use mathlib.Core.List.{List, [], _∷_, _++_}
+use native.Mathlib.Omega.{arith}
+use borrow.Author.Tests.{le-leb, lt-leb, le-ltb, eq-eqb}
+use lib.Dec.{leb}
+use lib.ListN.{length}
+use Rattle.base.specs.Item.{Item}
+use Rattle.tape.specs.Entry.{room, entries, over}
+use Rattle.rules.specs.Items.{items as itemsOf}
+use Rattle.reader.specs.declared.Answer.{Answer}
+use Rattle.reader.specs.Answers.{answer, answerOf, tapeOf}
+use Rattle.reader.proofs.Laws.{done-when, row-0}
+use Rattle.syntax.specs.Token.{eof, Token, token}
+use Rattle.syntax.specs.Words.{tokens}
+use Rattle.syntax.specs.Machine.{Read, refused, accepted}
+use Rattle.syntax.proofs.TextTokens.{text-tokens}
+use Rattle.syntax.proofs.ValueComplete.{value-complete, constant-complete}
+use Rattle.syntax.proofs.TypeComplete.{type-complete}
+use Rattle.syntax.proofs.SetComplete.{set-complete}
+use Rattle.syntax.proofs.ValueSound.{value-exact}
+use Rattle.syntax.proofs.TypeSound.{type-exact}
+use Rattle.syntax.proofs.SetSound.{set-exact}
+use Rattle.syntax.proofs.OneReading.{value-one, ty-one, set-one}
+use Rattle.grammar.specs.declared.Entry.{Entry}
+use Rattle.grammar.specs.declared.Entry.the-variants.{Value, Constant, Ty, SelectionSet}
+use Rattle.grammar.specs.Answers.{readOf, deepest, firstError, readAnswer, itemsAnswer, countedEvents, grammarAnswer, grammarItems, grammarEvents}
+use Rattle.grammar.specs.Trees.{Tree, treeTokens, treeEvents, treeDepth, Clear, Sentence}
+use Rattle.grammar.proofs.Rows.{parsed}
+
+-- ---- over the reader's definition
+
+complete-by : (e : Entry) (d : ℕ) (x : Tree e) (u : Token) → treeDepth e x ≤ d → u .kind ≡ eof → readOf e d (treeTokens e x ++ (u ∷ [])) ≡ accepted (treeEvents e x)
+unfolding readOf
+complete-by Value d x u l k = value-complete d x u [] l k
+complete-by Constant d x u l k = constant-complete d x u [] l k
+complete-by Ty d x u l k = type-complete d x u [] l k
+complete-by SelectionSet d x u l k = set-complete d x u [] l k
+
+-- a sentence is accepted with its tree's events
+pub complete : (e : Entry) (d : ℕ) (t : List ℕ) (x : Tree e) → Sentence e d t x → readOf e d (tokens t) ≡ accepted (treeEvents e x)
+complete e d t x s = rw (s .spells) (complete-by e d x (token eof (length t) 0) (s .deep) refl)
+
+-- what is accepted is a sentence
+pub record Accepted (e : Entry) (d : ℕ) (t : List ℕ) (es : List Item) : Type 0 where
+  pub tree : Tree e
+  pub sentence : Sentence e d t tree
+  pub events : es ≡ treeEvents e tree
+
+exact-by : (e : Entry) (d : ℕ) (us : List Token) (u : Token) (es : List Item) → Rattle.syntax.proofs.Sound.NoEof us → readOf e d (us ++ (u ∷ [])) ≡ accepted es
+    → (x : Tree e) × (treeDepth e x ≤ d) × (us ≡ treeTokens e x) × (es ≡ treeEvents e x)
+unfolding readOf
+exact-by Value d us u es n h = value-exact false d us u es n h
+exact-by Constant d us u es n h = value-exact true d us u es n h
+exact-by Ty d us u es n h = type-exact d us u es n h
+exact-by SelectionSet d us u es n h = set-exact d us u es n h
+
+pub sound : (e : Entry) (d : ℕ) (t : List ℕ) (es : List Item) → readOf e d (tokens t) ≡ accepted es → Accepted e d t es
+sound e d t es h =
+    let w = text-tokens t in
+    let x = exact-by e d (w .others) (w .end) es (w .no) (rw (w .split) at h) in
+    record {
+      tree = x .0;
+      sentence = record { deep = x .1; spells = w .split ∙ rw (x .2, w .last) };
+      events = x .3;
+    }
+
+-- one tree has these tokens
+pub one-tree : (e : Entry) (x y : Tree e) → treeTokens e x ≡ treeTokens e y → x ≡ y
+one-tree Value x y h = value-one x y h
+one-tree Constant x y h = value-one x y h
+one-tree Ty x y h = ty-one x y h
+one-tree SelectionSet x y h = set-one x y h
+
+-- ---- over the answers and the tapes
+
+module _ (e : Entry) (t : List ℕ) (limit depth : ℕ) (items events : List ℕ) where
+  -- where all items are read and none is an error, the reading of the tokens is the answer
+  clear-read : Clear t limit depth items
+      → (grammarAnswer e t limit depth items events ≡ readAnswer (length t) (length (itemsOf t)) (room events) (readOf e depth (tokens t)))
+      × (grammarItems t limit depth items ≡ over items (entries (itemsOf t)))
+      × (grammarEvents e t limit depth items events ≡ countedEvents events (readOf e depth (tokens t)))
+  clear-read c =
+      let z = done-when t limit items (c .utf8) (c .short) (c .admitted) in
+      let r = row-0 t limit items (record { short = c .short; utf8 = c .utf8 }) (c .admitted) in
+      let n : answerOf t limit items .items ≡ length (itemsOf t) = ap (λ (a : Answer). a .items) (r .0) in
+      let p = parsed e t limit depth items events (c .allowed) (answerOf t limit items) (tapeOf t limit items) refl refl z
+              (firstError (itemsOf t)) refl (rw n (omega (arith, c .faultless)))
+              (readAnswer (length t) (answerOf t limit items .items) (room events) (readOf e depth (tokens t))) (countedEvents events (readOf e depth (tokens t))) refl refl in
+      (rw (← n) (sym (p .0)), sym (p .1 .0) ∙ r .1, sym (p .1 .1))
+
+  -- a sentence whose events have room: 0, and they are on the tape
+  pub sentence-done : Clear t limit depth items → (x : Tree e) → Sentence e depth t x → length (treeEvents e x) ≤ room events
+      → (grammarAnswer e t limit depth items events ≡ answer 0 (length t) (length (itemsOf t)) (length (treeEvents e x)))
+      × (grammarItems t limit depth items ≡ over items (entries (itemsOf t)))
+      × (grammarEvents e t limit depth items events ≡ over events (entries (treeEvents e x)))
+  unfolding readAnswer countedEvents
+  sentence-done c x s l =
+      let r = clear-read c in
+      let h = complete e depth t x s in
+      let b = le-leb (length (treeEvents e x)) (room events) l in
+      (r .0 ∙ rw (h, b), r .1, r .2 ∙ rw (h, b))
+
+  -- and without room: 10 with their count, and the event tape is unchanged
+  pub sentence-short : Clear t limit depth items → (x : Tree e) → Sentence e depth t x → room events < length (treeEvents e x)
+      → (grammarAnswer e t limit depth items events ≡ answer 10 0 (length (itemsOf t)) (length (treeEvents e x)))
+      × (grammarItems t limit depth items ≡ over items (entries (itemsOf t)))
+      × (grammarEvents e t limit depth items events ≡ events)
+  unfolding readAnswer countedEvents
+  sentence-short c x s l =
+      let r = clear-read c in
+      let h = complete e depth t x s in
+      let b = lt-leb (length (treeEvents e x)) (room events) l in
+      (r .0 ∙ rw (h, b), r .1, r .2 ∙ rw (h, b))
+
+  -- the other way round: 0 and 10 are answered to sentences alone
+  pub done-sentence : Clear t limit depth items → (grammarAnswer e t limit depth items events .number ≡ 0) → (x : Tree e) × Sentence e depth t x
+  done-sentence c z = by-read (readOf e depth (tokens t)) refl
+    where
+      n : readAnswer (length t) (length (itemsOf t)) (room events) (readOf e depth (tokens t)) .number ≡ 0
+      n = rw (← clear-read c .0) z
+      by-read : (r : Read) → readOf e depth (tokens t) ≡ r → (x : Tree e) × Sentence e depth t x
+      by-read (accepted es) h = let a = sound e depth t es h in (a .tree, a .sentence)
+      by-read (refused k p) h = ?
