@@ -3,3 +3,4 @@ pub mod Events
 pub mod View
 pub mod Items
 pub mod Moves
+pub mod Onward

@@ -14,7 +14,7 @@ use Rattle.parser.specs.View.{Holds, rest, tokenOf, Front}
 use Rattle.parser.specs.Events.{Puts}
 use Rattle.parser.specs.declared.Step.{Step}
 use Rattle.parser.specs.declared.Step.the-variants.{Done, Stop}
-use Rattle.parser.specs.Promise.{Took, Outcome, took, stopped}
+use Rattle.parser.specs.Promise.{Went, Took, Outcome, took, stopped}
 use Rattle.parser.proofs.Events.{puts-none, puts-then}
 
 pub emits-append : (es fs : List Item) (x : Read) → emits es (emits fs x) ≡ emits (es ++ fs) x
@@ -50,12 +50,15 @@ module _ (c : Bool) (t : List ℕ) (l at : ℕ) (p : Peeked) (F : Front t at p) 
   pub took-one : (due left : List Sym) (es : List Item) (tape : List ℕ) (out : ℕ) (tape′ : List ℕ) (next : ℕ) → ((K : List Sym) → step c l (due ++ K) (tokenOf p) ≡ go es (left ++ K))
       → (p .kind ≡ 0 → ⊥) → Puts tape out tape′ next es → Took c t due l at tape out tape′ left (p .next) (p .start + p .size) next
   took-one due left es tape out tape′ next m n w = record {
-    events = es;
-    puts = w;
+    went = record {
+      events = es;
+      puts = w;
+      onward = let a = F .ahead in omega arith;
+      inside = F .inside n;
+      fits = F .fits;
+      reads = λ K. run-at (due ++ K) ∙ rw (m K);
+    };
     ahead = F .ahead;
-    inside = F .inside n;
-    fits = F .fits;
-    reads = λ K. run-at (due ++ K) ∙ rw (m K);
   }
 
   pub stop-one : (due : List Sym) (number : ℕ) → ((K : List Sym) → step c l (due ++ K) (tokenOf p) ≡ stop number)
@@ -63,29 +66,37 @@ module _ (c : Bool) (t : List ℕ) (l at : ℕ) (p : Peeked) (F : Front t at p) 
   stop-one due number m K = run-at (due ++ K) ∙ rw (m K)
 
 -- one reading, and then another
-pub took-then : {c : Bool} {t : List ℕ} {due mid left : List Sym} {l at : ℕ} {tape : List ℕ} {out : ℕ} {tape′ : List ℕ} {n e o : ℕ} {tape″ : List ℕ} {n′ e′ o′ : ℕ}
-    → Took c t due l at tape out tape′ mid n e o → Took c t mid e n tape′ o tape″ left n′ e′ o′ → Took c t due l at tape out tape″ left n′ e′ o′
-took-then {c} {t} {due} {mid} {left} {n′ = n′} {e′ = e′} a b = record {
+pub went-then : {c : Bool} {t : List ℕ} {due mid left : List Sym} {l at : ℕ} {tape : List ℕ} {out : ℕ} {tape′ : List ℕ} {n e o : ℕ} {tape″ : List ℕ} {n′ e′ o′ : ℕ}
+    → Went c t due l at tape out tape′ mid n e o → Went c t mid e n tape′ o tape″ left n′ e′ o′ → Went c t due l at tape out tape″ left n′ e′ o′
+went-then {c} {t} {due} {mid} {left} {n′ = n′} {e′ = e′} a b = record {
   events = a .events ++ b .events;
   puts = puts-then (a .puts) (b .puts);
-  ahead = let x = a .ahead in let y = b .ahead in omega arith;
+  onward = let x = a .onward in let y = b .onward in omega arith;
   inside = b .inside;
   fits = b .fits;
   reads = λ K. a .reads K ∙ rw (b .reads K) (emits-append (a .events) (b .events) (run c (left ++ K) e′ (rest t n′)));
 }
 
+pub took-went : {c : Bool} {t : List ℕ} {due mid left : List Sym} {l at : ℕ} {tape : List ℕ} {out : ℕ} {tape′ : List ℕ} {n e o : ℕ} {tape″ : List ℕ} {n′ e′ o′ : ℕ}
+    → Took c t due l at tape out tape′ mid n e o → Went c t mid e n tape′ o tape″ left n′ e′ o′ → Took c t due l at tape out tape″ left n′ e′ o′
+took-went a b = record { went = went-then (a .went) b; ahead = let x = a .ahead in let y = b .onward in omega arith }
+
+took-then : {c : Bool} {t : List ℕ} {due mid left : List Sym} {l at : ℕ} {tape : List ℕ} {out : ℕ} {tape′ : List ℕ} {n e o : ℕ} {tape″ : List ℕ} {n′ e′ o′ : ℕ}
+    → Took c t due l at tape out tape′ mid n e o → Took c t mid e n tape′ o tape″ left n′ e′ o′ → Took c t due l at tape out tape″ left n′ e′ o′
+took-then a b = took-went a (b .went)
+
 pub stop-then : {c : Bool} {t : List ℕ} {due mid : List Sym} {l at : ℕ} {tape : List ℕ} {out : ℕ} {tape′ : List ℕ} {n e o : ℕ}
-    → Took c t due l at tape out tape′ mid n e o → (number place : ℕ) → ((K : List Sym) → run c (mid ++ K) e (rest t n) ≡ refused number place)
+    → Went c t due l at tape out tape′ mid n e o → (number place : ℕ) → ((K : List Sym) → run c (mid ++ K) e (rest t n) ≡ refused number place)
     → (K : List Sym) → run c (due ++ K) l (rest t at) ≡ refused number place
 stop-then a number place b K = a .reads K ∙ rw (b K)
 
 -- the same reading, with X due below
-pub took-above : {c : Bool} {t : List ℕ} {due left : List Sym} {l at : ℕ} {tape : List ℕ} {out : ℕ} {tape′ : List ℕ} {n e o : ℕ}
-    → (X : List Sym) → Took c t due l at tape out tape′ left n e o → Took c t (due ++ X) l at tape out tape′ (left ++ X) n e o
-took-above {due = due} {left = left} X a = record {
+pub went-above : {c : Bool} {t : List ℕ} {due left : List Sym} {l at : ℕ} {tape : List ℕ} {out : ℕ} {tape′ : List ℕ} {n e o : ℕ}
+    → (X : List Sym) → Went c t due l at tape out tape′ left n e o → Went c t (due ++ X) l at tape out tape′ (left ++ X) n e o
+went-above {due = due} {left = left} X a = record {
   events = a .events;
   puts = a .puts;
-  ahead = a .ahead;
+  onward = a .onward;
   inside = a .inside;
   fits = a .fits;
   reads = λ K. rw (append-assoc due X K, append-assoc left X K) (a .reads (X ++ K));
@@ -96,17 +107,22 @@ pub stop-above : (c : Bool) (t : List ℕ) (due : List Sym) (l at number place :
 stop-above c t due l at number place X a K = rw (append-assoc due X K) (a (X ++ K))
 
 -- a reading after which a node closes
-pub took-closed : {c : Bool} {t : List ℕ} {due left : List Sym} {l at : ℕ} {tape : List ℕ} {out : ℕ} {tape′ : List ℕ} {n e o code start : ℕ} {tape″ : List ℕ} {o′ : ℕ}
-    → Took c t due l at tape out tape′ (close code start ∷ left) n e o → Puts tape′ o tape″ o′ (closes code start e ∷ [])
-    → Took c t due l at tape out tape″ left n e o′
-took-closed {c} {t} {due} {left} {n = n} {e = e} {code = code} {start = start} a w = record {
+pub went-closed : {c : Bool} {t : List ℕ} {due left : List Sym} {l at : ℕ} {tape : List ℕ} {out : ℕ} {tape′ : List ℕ} {n e o code start : ℕ} {tape″ : List ℕ} {o′ : ℕ}
+    → Went c t due l at tape out tape′ (close code start ∷ left) n e o → Puts tape′ o tape″ o′ (closes code start e ∷ [])
+    → Went c t due l at tape out tape″ left n e o′
+went-closed {c} {t} {due} {left} {n = n} {e = e} {code = code} {start = start} a w = record {
   events = a .events ++ (closes code start e ∷ []);
   puts = puts-then (a .puts) w;
-  ahead = a .ahead;
+  onward = a .onward;
   inside = a .inside;
   fits = a .fits;
   reads = λ K. a .reads K ∙ rw (close-now c code start e (left ++ K) (rest t n)) (emits-append (a .events) (closes code start e ∷ []) (run c (left ++ K) e (rest t n)));
 }
+
+pub took-closed : {c : Bool} {t : List ℕ} {due left : List Sym} {l at : ℕ} {tape : List ℕ} {out : ℕ} {tape′ : List ℕ} {n e o code start : ℕ} {tape″ : List ℕ} {o′ : ℕ}
+    → Took c t due l at tape out tape′ (close code start ∷ left) n e o → Puts tape′ o tape″ o′ (closes code start e ∷ [])
+    → Took c t due l at tape out tape″ left n e o′
+took-closed a w = record { went = went-closed (a .went) w; ahead = a .ahead }
 
 -- what an outcome is, by its case
 pub was-done : {c : Bool} {t : List ℕ} {due left : List Sym} {l at : ℕ} {tape : List ℕ} {out : ℕ} {tape′ : List ℕ} {r : Step} → Outcome c t due left l at tape out tape′ r
@@ -129,33 +145,38 @@ was-stopped (stopped {number = number} {place = place} k h) n p q =
 -- the tape keeps its length
 pub kept-length : {c : Bool} {t : List ℕ} {due left : List Sym} {l at : ℕ} {tape : List ℕ} {out : ℕ} {tape′ : List ℕ} {r : Step} → Outcome c t due left l at tape out tape′ r
     → length tape′ ≡ length tape
-kept-length (took h) = h .puts .kept
+kept-length (took h) = h .went .puts .kept
 kept-length (stopped k h) = k
 
 -- a reading, and then another that answers
 pub then : {c : Bool} {t : List ℕ} {due mid left : List Sym} {l at : ℕ} {tape : List ℕ} {out : ℕ} {tape′ : List ℕ} {n e o : ℕ} {tape″ : List ℕ} {r : Step}
     → Took c t due l at tape out tape′ mid n e o → Outcome c t mid left e n tape′ o tape″ r → Outcome c t due left l at tape out tape″ r
 then a (took h) = took (took-then a h)
-then a (stopped {number = number} {place = place} k h) = stopped (k ∙ a .puts .kept) (stop-then a number place h)
+then a (stopped {number = number} {place = place} k h) = stopped (k ∙ a .went .puts .kept) (stop-then (a .went) number place h)
 
 -- with X due below
 pub above : {c : Bool} {t : List ℕ} {due left : List Sym} {l at : ℕ} {tape : List ℕ} {out : ℕ} {tape′ : List ℕ} {r : Step}
     → (X : List Sym) → Outcome c t due left l at tape out tape′ r → Outcome c t (due ++ X) (left ++ X) l at tape out tape′ r
-above X (took h) = took (took-above X h)
+above X (took h) = took (record { went = went-above X (h .went); ahead = h .ahead })
 above {c} {t} {due} {left} {l} {at} X (stopped {number = number} {place = place} k h) = stopped k (stop-above c t due l at number place X h)
 
 -- the same reading, where something else is due that is read the same there
-pub same-due : {c : Bool} {t : List ℕ} {due left : List Sym} {l at : ℕ} {tape : List ℕ} {out : ℕ} {tape′ : List ℕ} {r : Step} (due′ : List Sym)
-    → ((K : List Sym) → run c (due′ ++ K) l (rest t at) ≡ run c (due ++ K) l (rest t at)) → Outcome c t due left l at tape out tape′ r
-    → Outcome c t due′ left l at tape out tape′ r
-same-due due′ f (took h) = took (record {
+pub went-same : {c : Bool} {t : List ℕ} {due left : List Sym} {l at : ℕ} {tape : List ℕ} {out : ℕ} {tape′ : List ℕ} {n e o : ℕ} (due′ : List Sym)
+    → ((K : List Sym) → run c (due′ ++ K) l (rest t at) ≡ run c (due ++ K) l (rest t at)) → Went c t due l at tape out tape′ left n e o
+    → Went c t due′ l at tape out tape′ left n e o
+went-same due′ f h = record {
   events = h .events;
   puts = h .puts;
-  ahead = h .ahead;
+  onward = h .onward;
   inside = h .inside;
   fits = h .fits;
   reads = λ K. f K ∙ h .reads K;
-})
+}
+
+pub same-due : {c : Bool} {t : List ℕ} {due left : List Sym} {l at : ℕ} {tape : List ℕ} {out : ℕ} {tape′ : List ℕ} {r : Step} (due′ : List Sym)
+    → ((K : List Sym) → run c (due′ ++ K) l (rest t at) ≡ run c (due ++ K) l (rest t at)) → Outcome c t due left l at tape out tape′ r
+    → Outcome c t due′ left l at tape out tape′ r
+same-due due′ f (took h) = took (record { went = went-same due′ f (h .went); ahead = h .ahead })
 same-due due′ f (stopped k h) = stopped k (λ K. f K ∙ h K)
 
 -- ---- loops: what was read since item number i₀, with `due` still due: nothing yet, or some

@@ -3,11 +3,11 @@ ghost use mathlib.Core.Path.{_≡_};
 ghost use Prim.Native.Nat.{_+_, _-_, _^_, _≤_, _<_};
 ghost use lib.Dec.{leb};
 ghost use Rattle.base.specs.Text.{pick};
-ghost use mathlib.Core.List.{[], _∷_};
+ghost use mathlib.Core.List.{[], _∷_, _++_};
 ghost use lib.ListN.{length};
 ghost use Rattle.base.specs.Item.{item};
 ghost use Rattle.rules.specs.Items.{items as itemsOf};
-ghost use Rattle.syntax.specs.Token.{tokenEvent, opens, closes, leaf};
+ghost use Rattle.syntax.specs.Token.{tokenEvent, opens, closes, leaf, nameEvents, endOf};
 ghost use Rattle.syntax.specs.Words.{same, wordOf, ignored};
 ghost use Rattle.parser.specs.View.{Holds, Front, tokenOf, kindOf};
 ghost use Rattle.parser.specs.Events.{store, Puts};
@@ -186,4 +186,16 @@ pub fn put_leaf(events: &mut [u8], out: usize, node: u8, token: Peeked) -> usize
     let opened = put_open(events, out, node, token.start);
     let held = put_token(events, opened, token);
     put_close(events, held, node, token.start, token.start + token.size)
+}
+
+// A node of this code around a NAME.
+pub fn put_named(events: &mut [u8], out: usize, node: u8, token: Peeked) -> usize
+    requires { ⌜ node < 64 ⌝ }
+    requires { ⌜ token .kind < 26 ⌝ }
+    requires { ⌜ token .start + token .size < 2 ^ 28 ⌝ }
+    ensures { λ r. ⌜ Puts (now (events .entry)) out (now (events .exit)) r (opens node (token .start) ∷ (nameEvents (tokenOf token) ++ (closes node (token .start) (endOf (tokenOf token)) ∷ []))) ⌝ }
+{
+    let opened = put_open(events, out, node, token.start);
+    let named = put_leaf(events, opened, 1, token);
+    put_close(events, named, node, token.start, token.start + token.size)
 }

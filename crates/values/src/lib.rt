@@ -55,9 +55,7 @@ fn enum_value(token: Peeked, events: &mut [u8], out: usize) -> usize
     requires { ⌜ token .start + token .size < 2 ^ 28 ⌝ }
     ensures { λ r. ⌜ Puts (now (events .entry)) out (now (events .exit)) r (opens 7 (token .start) ∷ (nameEvents (tokenOf token) ++ (closes 7 (token .start) (endOf (tokenOf token)) ∷ []))) ⌝ }
 {
-    let opened = parser::put_open(events, out, 7, token.start);
-    let named = parser::put_leaf(events, opened, 1, token);
-    parser::put_close(events, named, 7, token.start, token.start + token.size)
+    parser::put_named(events, out, 7, token)
 }
 
 // Opens a node and holds its first token.

@@ -166,12 +166,12 @@ list-value-enum-known-next t c = search needs
 list-value-loop-less : (t : ℕ) → list-value-lts.Need-loop-less (list-value-calls t) (list-value-at t) list-value.Post list-value-Inv-loop list-value-μ-loop
 list-value-loop-less t c =
     let h = was-done (list-value-item (c .before .before .before .before .before .before .before .before .before .before .before .before .before .before .before .before .before .before .before .args .constant) (c .before .before .before .before .before .before .before .before .before .before .before .before .before .before .before .before .before .before .before .args .text .now) 0 _ (c .before .before .before .before .before .before .before .before .before .before .before .before .before .before .before .before .before .before .before .args .depth) ((c .before .before .before .before .before .before .before .before .before .before .before .before .before .before .before .before .before .before .before .args .token) .start) (c .before .before .before .before .before .before .before .before .before .before .peek-token .result) (c .before .before .before .before .before .before .before .before .before .before .peek-token .ensures) _ _ (c .before .before .before .before .before .before .before .before .before .if1 .left) (c .before .before .before .before .before .before .before .before .if2 .left) (c .before .before .before .before .before .before .before .if3 .left) _ _ (c .before .before .before .before .before .value .ensures 0)) _ _ _ (c .before .next .given .1) in
-    omega (arith, h .ahead, h .inside)
+    omega (arith, h .ahead, h .went .inside)
 
 list-value-loop-again : (t : ℕ) → list-value-lts.Need-loop-again (list-value-calls t) (list-value-at t) list-value.Post list-value-Inv-loop list-value-μ-loop
 list-value-loop-again t c =
     let h = was-done (list-value-item (c .before .before .before .before .before .before .before .before .before .before .before .before .before .before .before .before .before .before .before .args .constant) (c .before .before .before .before .before .before .before .before .before .before .before .before .before .before .before .before .before .before .before .args .text .now) 0 _ (c .before .before .before .before .before .before .before .before .before .before .before .before .before .before .before .before .before .before .before .args .depth) ((c .before .before .before .before .before .before .before .before .before .before .before .before .before .before .before .before .before .before .before .args .token) .start) (c .before .before .before .before .before .before .before .before .before .before .peek-token .result) (c .before .before .before .before .before .before .before .before .before .before .peek-token .ensures) _ _ (c .before .before .before .before .before .before .before .before .before .if1 .left) (c .before .before .before .before .before .before .before .before .if2 .left) (c .before .before .before .before .before .before .before .if3 .left) _ _ (c .before .before .before .before .before .value .ensures 0)) _ _ _ (c .before .next .given .1) in
-    (h .inside, h .puts .kept ∙ c .before .before .before .before .before .before .before .before .before .before .before .loop .inv .1, passed-more (c .before .before .before .before .before .before .before .before .before .before .before .loop .inv .2) (λ l. was-done (list-value-item (c .before .before .before .before .before .before .before .before .before .before .before .before .before .before .before .before .before .before .before .args .constant) (c .before .before .before .before .before .before .before .before .before .before .before .before .before .before .before .before .before .before .before .args .text .now) l _ (c .before .before .before .before .before .before .before .before .before .before .before .before .before .before .before .before .before .before .before .args .depth) ((c .before .before .before .before .before .before .before .before .before .before .before .before .before .before .before .before .before .before .before .args .token) .start) (c .before .before .before .before .before .before .before .before .before .before .peek-token .result) (c .before .before .before .before .before .before .before .before .before .before .peek-token .ensures) _ _ (c .before .before .before .before .before .before .before .before .before .if1 .left) (c .before .before .before .before .before .before .before .before .if2 .left) (c .before .before .before .before .before .before .before .if3 .left) _ _ (c .before .before .before .before .before .value .ensures l)) _ _ _ (c .before .next .given .1)))
+    (h .went .inside, h .went .puts .kept ∙ c .before .before .before .before .before .before .before .before .before .before .before .loop .inv .1, passed-more (c .before .before .before .before .before .before .before .before .before .before .before .loop .inv .2) (λ l. was-done (list-value-item (c .before .before .before .before .before .before .before .before .before .before .before .before .before .before .before .before .before .before .before .args .constant) (c .before .before .before .before .before .before .before .before .before .before .before .before .before .before .before .before .before .before .before .args .text .now) l _ (c .before .before .before .before .before .before .before .before .before .before .before .before .before .before .before .before .before .before .before .args .depth) ((c .before .before .before .before .before .before .before .before .before .before .before .before .before .before .before .before .before .before .before .args .token) .start) (c .before .before .before .before .before .before .before .before .before .before .peek-token .result) (c .before .before .before .before .before .before .before .before .before .before .peek-token .ensures) _ _ (c .before .before .before .before .before .before .before .before .before .if1 .left) (c .before .before .before .before .before .before .before .before .if2 .left) (c .before .before .before .before .before .before .before .if3 .left) _ _ (c .before .before .before .before .before .value .ensures l)) _ _ _ (c .before .next .given .1)))
 
 object-field-field-name-requires : (t : ℕ) → object-field-lts.Need-field-name-requires (object-field-calls t) (object-field-at t) object-field.Post
 object-field-field-name-requires t c κs = ((c .before .before .before .before .pre .1 .0), ((c .before .before .before .before .pre .1 .1 .0), (c .before .before .before .before .pre .1 .1 .1)))
@@ -183,7 +183,7 @@ object-field-enum-known-next : (t : ℕ) → object-field-lts.Need-enum-known-ne
 object-field-enum-known-next t c = search needs
 
 object-field-peek-token-requires : (t : ℕ) → object-field-lts.Need-peek-token-requires (object-field-calls t) (object-field-at t) object-field.Post
-object-field-peek-token-requires t c κs = ((c .before .before .before .before .before .before .before .before .before .before .before .pre .1 .0), (was-done (c .before .before .before .before .before .before .field-name .ensures (c .before .before .before .before .before .before .before .before .before .before .before .args .constant) ((c .before .before .before .before .before .before .before .before .before .before .before .pre .1 .1 .1) .at) 0 (c .before .before .before .before .before .before .before .before .before .before .before .args .depth) 0 ((c .before .before .before .before .before .before .before .before .before .before .before .pre .1 .1 .1) .front)) _ _ _ (c .before .before .next .given .1)) .inside)
+object-field-peek-token-requires t c κs = ((c .before .before .before .before .before .before .before .before .before .before .before .pre .1 .0), (was-done (c .before .before .before .before .before .before .field-name .ensures (c .before .before .before .before .before .before .before .before .before .before .before .args .constant) ((c .before .before .before .before .before .before .before .before .before .before .before .pre .1 .1 .1) .at) 0 (c .before .before .before .before .before .before .before .before .before .before .before .args .depth) 0 ((c .before .before .before .before .before .before .before .before .before .before .before .pre .1 .1 .1) .front)) _ _ _ (c .before .before .next .given .1)) .went .inside)
 
 object-field-same-length : (t : ℕ) → object-field-lts.Need-same-length (object-field-calls t) (object-field-at t) object-field.Post
 object-field-same-length t c = search needs
@@ -195,7 +195,7 @@ object-field-sub-value : (t : ℕ) → object-field-lts.Need-sub-value (object-f
 object-field-sub-value t c = search needs
 
 object-field-value-requires : (t : ℕ) → object-field-lts.Need-value-requires (object-field-calls t) (object-field-at t) object-field.Post
-object-field-value-requires t c κs = (omega (arith, c .before .before .before .before .before .before .before .before .before .before .before .before .pre .0, c .before .if1 .left), ((c .before .before .before .before .before .before .before .before .before .before .before .before .pre .1 .0), (was-done (c .before .before .before .before .before .before .before .field-name .ensures (c .before .before .before .before .before .before .before .before .before .before .before .before .args .constant) ((c .before .before .before .before .before .before .before .before .before .before .before .before .pre .1 .1 .1) .at) 0 (c .before .before .before .before .before .before .before .before .before .before .before .before .args .depth) 0 ((c .before .before .before .before .before .before .before .before .before .before .before .before .pre .1 .1 .1) .front)) _ _ _ (c .before .before .before .next .given .1)) .inside))
+object-field-value-requires t c κs = (omega (arith, c .before .before .before .before .before .before .before .before .before .before .before .before .pre .0, c .before .if1 .left), ((c .before .before .before .before .before .before .before .before .before .before .before .before .pre .1 .0), (was-done (c .before .before .before .before .before .before .before .field-name .ensures (c .before .before .before .before .before .before .before .before .before .before .before .before .args .constant) ((c .before .before .before .before .before .before .before .before .before .before .before .before .pre .1 .1 .1) .at) 0 (c .before .before .before .before .before .before .before .before .before .before .before .before .args .depth) 0 ((c .before .before .before .before .before .before .before .before .before .before .before .before .pre .1 .1 .1) .front)) _ _ _ (c .before .before .before .next .given .1)) .went .inside))
 
 object-field-enum-known-number-2 : (t : ℕ) → object-field-lts.Need-enum-known-number-2 (object-field-calls t) (object-field-at t) object-field.Post
 object-field-enum-known-number-2 t c = search needs
@@ -206,7 +206,7 @@ object-field-enum-known-n t c = search needs
 object-field-put-close-requires : (t : ℕ) → object-field-lts.Need-put-close-requires (object-field-calls t) (object-field-at t) object-field.Post
 object-field-put-close-requires t c κs =
     let h = was-done (c .before .before .before .before .before .before .value .ensures 0) _ _ _ (c .before .before .n .given .1) in
-    let f = h .fits in
+    let f = h .went .fits in
     let s = (c .before .before .before .before .before .before .before .before .before .before .before .before .before .before .before .before .before .before .before .pre .1 .0) .short in
     let n = narrow (c .before .before .before .before .before .before .before .before .before .before .before .before .before .before .before .before .before .before .before .args .text .now) (c .before .before .before .before .before .before .before .before .before .before .before .before .before .before .before .before .before .before .before .args .items .now) _ (c .before .before .before .before .before .before .before .before .before .before .before .before .before .before .before .before .before .before .before .args .token) (c .before .before .before .before .before .before .before .before .before .before .before .before .before .before .before .before .before .before .before .pre .1 .0) ((c .before .before .before .before .before .before .before .before .before .before .before .before .before .before .before .before .before .before .before .pre .1 .1 .1) .front) in
     (omega arith, (omega arith, omega arith))
@@ -289,12 +289,12 @@ object-value-enum-known-next t c = search needs
 object-value-loop-less : (t : ℕ) → object-value-lts.Need-loop-less (object-value-calls t) (object-value-at t) object-value.Post object-value-Inv-loop object-value-μ-loop
 object-value-loop-less t c =
     let h = was-done (c .before .before .before .before .before .object-field .ensures _ 0 ((c .before .before .before .before .before .before .before .before .before .before .before .before .before .before .before .before .before .before .before .args .token) .start) (c .before .before .before .before .before .before .before .before .before .before .peek-token .ensures)) _ _ _ (c .before .next .given .1) in
-    omega (arith, h .ahead, h .inside)
+    omega (arith, h .ahead, h .went .inside)
 
 object-value-loop-again : (t : ℕ) → object-value-lts.Need-loop-again (object-value-calls t) (object-value-at t) object-value.Post object-value-Inv-loop object-value-μ-loop
 object-value-loop-again t c =
     let h = was-done (c .before .before .before .before .before .object-field .ensures _ 0 ((c .before .before .before .before .before .before .before .before .before .before .before .before .before .before .before .before .before .before .before .args .token) .start) (c .before .before .before .before .before .before .before .before .before .before .peek-token .ensures)) _ _ _ (c .before .next .given .1) in
-    (h .inside, h .puts .kept ∙ c .before .before .before .before .before .before .before .before .before .before .before .loop .inv .1, passed-more (c .before .before .before .before .before .before .before .before .before .before .before .loop .inv .2) (λ l. was-done (c .before .before .before .before .before .object-field .ensures _ l ((c .before .before .before .before .before .before .before .before .before .before .before .before .before .before .before .before .before .before .before .args .token) .start) (c .before .before .before .before .before .before .before .before .before .before .peek-token .ensures)) _ _ _ (c .before .next .given .1)))
+    (h .went .inside, h .went .puts .kept ∙ c .before .before .before .before .before .before .before .before .before .before .before .loop .inv .1, passed-more (c .before .before .before .before .before .before .before .before .before .before .before .loop .inv .2) (λ l. was-done (c .before .before .before .before .before .object-field .ensures _ l ((c .before .before .before .before .before .before .before .before .before .before .before .before .before .before .before .before .before .before .before .args .token) .start) (c .before .before .before .before .before .before .before .before .before .before .peek-token .ensures)) _ _ _ (c .before .next .given .1)))
 
 value-peek-token-requires : (t : ℕ) → value-lts.Need-peek-token-requires (value-calls t) (value-at t) value.Post
 value-peek-token-requires t c κs = (c .before .before .before .pre .1 .0, c .before .before .before .pre .1 .1)

@@ -28,7 +28,7 @@ enum-known-next c = search needs
 put-close-requires : tie.Need-put-close-requires
 put-close-requires c κs =
     let h = was-done (c .before .before .before .before .before .before .name .ensures false ((c .before .before .before .before .before .before .before .before .before .before .before .before .before .before .before .args .token) .start + (c .before .before .before .before .before .before .before .before .before .before .before .before .before .before .before .args .token) .size)) _ _ _ (c .before .before .next .given .1) in
-    let f = h .fits in
+    let f = h .went .fits in
     let s = c .before .before .before .before .before .before .before .before .before .before .before .before .before .before .before .pre .0 .short in
     let n = narrow (c .before .before .before .before .before .before .before .before .before .before .before .before .before .before .before .args .text .now) (c .before .before .before .before .before .before .before .before .before .before .before .before .before .before .before .args .items .now) _ (c .before .before .before .before .before .before .before .before .before .before .before .before .before .before .before .args .token) (c .before .before .before .before .before .before .before .before .before .before .before .before .before .before .before .pre .0) (c .before .before .before .before .before .before .before .before .before .before .before .before .before .before .before .pre .1 .1 .front) in
     (omega arith, (omega arith, omega arith))

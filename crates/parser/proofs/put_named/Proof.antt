@@ -1,8 +1,8 @@
--- `values::enum_value` meets its contract. Assumes nothing.
+-- `parser::put_named` meets its contract. Assumes nothing.
 use Rattle.parser.proofs.Events.{puts-then}
 use borrow.Author.Needs.{needs}
-use Rattle.values.proofs.enum_value.Statement.{statement}
-use Rattle.values.proofs.enum_value.Tie as tie
+use Rattle.parser.proofs.put_named.Statement.{statement}
+use Rattle.parser.proofs.put_named.Tie as tie
 
 put-open-requires : tie.Need-put-open-requires
 put-open-requires c κs = search needs
@@ -22,8 +22,8 @@ same-length c = search needs
 returns : tie.Need-returns
 returns c = puts-then (puts-then (c .before .before .before .before .before .before .before .before .before .before .before .put-open .ensures) (c .before .before .before .before .before .before .before .put-leaf .ensures)) (c .before .before .put-close .ensures)
 
-pub enum-value-spec : {M : Type 1} → statement M
-enum-value-spec =
+pub put-named-spec : {M : Type 1} → statement M
+put-named-spec =
     tie.close
     (tie.spec
     put-open-requires

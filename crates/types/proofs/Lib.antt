@@ -1,0 +1,2 @@
+-- Laws of types.
+pub mod Steps
