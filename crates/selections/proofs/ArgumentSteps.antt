@@ -1,12 +1,11 @@
 -- Arguments, step by step: what the reader does at a token, and what is read there. Assumes nothing.
 use Prim.Native.Nat.{ℕ, _+_}
-use mathlib.Core.Path.{_≡_, refl, sym, ap, _∙_}
+use mathlib.Core.Path.{_≡_, refl, sym, _∙_}
 use mathlib.Core.Bool.{Bool, true, false}
 use mathlib.Core.List.{List, [], _∷_, _++_}
 use native.Mathlib.Omega.{arith}
 use borrow.Author.Tests.{eq-eqb, ne-eqb, eqb-true}
 use lib.Dec.{eqb}
-use Rattle.base.specs.Item.{Item}
 use Rattle.base.proofs.Tests.{by, apart}
 use Rattle.syntax.specs.Token.{isName, Token, endOf, tokenEvent, opens, closes, nameEvents}
 use Rattle.syntax.specs.Machine.{Sym, value, colonDue, close, optArguments, firstArgument, arguments, go, stop, orArguments, orArgument, atArguments, step, refused, run}
