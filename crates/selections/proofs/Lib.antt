@@ -1,0 +1,4 @@
+-- Laws of selections.
+pub mod Ready
+pub mod ArgumentSteps
+pub mod DirectiveSteps

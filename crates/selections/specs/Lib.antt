@@ -1,0 +1,2 @@
+-- What the contracts of selections cite.
+pub mod Follows
