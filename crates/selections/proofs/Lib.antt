@@ -1,1 +1,4 @@
 -- Laws of selections.
+pub mod Sets
+pub mod Fields
+pub mod Fragments
