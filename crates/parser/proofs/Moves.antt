@@ -26,7 +26,7 @@ emits-none (refused n p) = refl
 emits-none (accepted gs) = refl
 
 -- events before a move are events before what it makes of the reading
-moved-also : (es : List Item) (m : Move) (p : ℕ) (k : List Sym → Read) → moved (also es m) p k ≡ emits es (moved m p k)
+pub moved-also : (es : List Item) (m : Move) (p : ℕ) (k : List Sym → Read) → moved (also es m) p k ≡ emits es (moved m p k)
 moved-also es (go fs K) p k = sym (emits-append es fs (k K))
 moved-also es (stop n) p k = refl
 moved-also es (halt fs) p k = refl

@@ -2,3 +2,6 @@
 pub mod Ready
 pub mod ArgumentSteps
 pub mod DirectiveSteps
+pub mod Sets
+pub mod Fields
+pub mod Fragments
