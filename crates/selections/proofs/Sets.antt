@@ -1,5 +1,5 @@
 -- Selection sets in the reader's definition, token by token and turn by turn, and from step to step. Assumes nothing.
-use Prim.Native.Nat.{ℕ, zero, suc, _+_, _-_, _^_, _≤_, _<_}
+use Prim.Native.Nat.{ℕ, zero, suc, _+_, _-_, _^_, _<_}
 use mathlib.Core.Path.{_≡_, refl, sym, ap, _∙_}
 use mathlib.Core.Bool.{Bool, true, false}
 use mathlib.Core.List.{List, [], _∷_, _++_}
@@ -9,7 +9,6 @@ use lib.Dec.{eqb}
 use lib.ListN.{length}
 use Rattle.base.specs.Item.{Item}
 use Rattle.base.proofs.Tests.{by, or-false, apart}
-use Rattle.rules.specs.Items.{items}
 use Rattle.syntax.specs.Token.{isName, Token, endOf, tokenEvent, opens, closes}
 use Rattle.syntax.specs.Machine.{Sym, selectionSet, optSelectionSet, firstSelection, selections, named, spread, go, stop, also, orSelectionSet, orSelection, atSelections, step, refused, emits, run}
 use Rattle.parser.specs.declared.Peeked.{Peeked}
@@ -180,19 +179,9 @@ pub follows-none : (t : List ℕ) (k : ℕ) (s : Step) (n p : ℕ) → s ≡ Sto
 unfolding follows
 follows-none t k s n p q = rw q
 
--- ---- a step that is known
+-- ---- a node that closes
 
 -- what a node asks that closes where a step stands, and began at a token
 pub closable : {t tape : List ℕ} {at : ℕ} {p : Peeked} (s : Step) (n : ℕ) → Holds t tape → Front t at p → Ready t s → n < 64
     → (length t < 2 ^ 28) × ((Ready t s) × ((n < 64) × (p .start < 2 ^ 28)))
 closable {t} {tape} {at} {p} s n H F i h = (let q = H .short in omega arith, (i, (h, let w = narrow t tape at p H F in omega arith)))
-
-pub ready-at : (t : List ℕ) (s : Step) (n e o : ℕ) → s ≡ Done n e o → Ready t s → (n < length (items t)) × (e ≤ length t)
-ready-at t s n e o q h = rw q at h
-
-pub goes-at : {c : Bool} {t : List ℕ} {due left : List Sym} {tape tape′ : List ℕ} {r : Step} (s : Step) (n e o : ℕ) → s ≡ Done n e o
-    → Goes c t due left tape tape′ (Done n e o) r → Goes c t due left tape tape′ s r
-goes-at s n e o q h = rw q h
-
-pub goes-stopped : (c : Bool) (t : List ℕ) (due left : List Sym) (tape : List ℕ) (s : Step) (n p : ℕ) → s ≡ Stop n p → Goes c t due left tape tape s (Stop n p)
-goes-stopped c t due left tape s n p q = rw q (halted refl)

@@ -13,7 +13,7 @@ ghost use Prim.Native.Nat.{ℕ, _+_, _^_, _<_};
 ghost use Rattle.syntax.specs.Token.{isName, endOf, opens, closes, nameEvents, tokenEvent};
 ghost use Rattle.syntax.specs.Machine.{named as namedDue, optArguments, optDirectives, optSelectionSet, close};
 ghost use Rattle.parser.specs.declared.Step.the-variants.{Done};
-ghost use Rattle.parser.specs.View.{Holds, Front, Seen, tokenOf};
+ghost use Rattle.parser.specs.View.{Holds, Seen, tokenOf};
 ghost use Rattle.parser.specs.Events.{Puts};
 ghost use Rattle.parser.specs.Promise.{Ready, Goes};
 ghost use Rattle.selections.specs.Follows.{follows};

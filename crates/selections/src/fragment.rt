@@ -13,7 +13,7 @@ ghost use Rattle.syntax.specs.Machine.{spread, namedType, optDirectives, select
 ghost use Rattle.parser.specs.declared.Step.the-variants.{Done};
 ghost use Rattle.parser.specs.View.{Holds, Front, Seen, tokenOf};
 ghost use Rattle.parser.specs.Events.{Puts};
-ghost use Rattle.parser.specs.Promise.{Ready, Goes, Begun};
+ghost use Rattle.parser.specs.Promise.{Goes, Begun};
 
 // Is it a Name that a FragmentName may be?
 pub fn is_fragment_name(kind: u8) -> bool

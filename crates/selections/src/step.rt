@@ -1,14 +1,12 @@
 // From step to step: each reads what is due where the step before stands, and hands a refusal on.
 use parser::Step;
-ghost use mathlib.Core.Path.{_≡_};
 ghost use mathlib.Core.Bool.{Bool, false};
 ghost use mathlib.Core.List.{[], _∷_};
-ghost use Prim.Native.Nat.{ℕ, _^_, _<_};
+ghost use Prim.Native.Nat.{_^_, _<_};
 ghost use lib.ListN.{length};
-ghost use Rattle.rules.specs.Items.{items as itemsOf};
-ghost use Rattle.syntax.specs.Machine.{value as valueDue, name as nameDue, colonDue, close, namedType};
+ghost use Rattle.syntax.specs.Machine.{value as valueDue, name as nameDue, colonDue, close};
 ghost use Rattle.parser.specs.View.{Holds};
-ghost use Rattle.parser.specs.Promise.{Outcome, Ready, Goes};
+ghost use Rattle.parser.specs.Promise.{Ready, Goes};
 
 // A Name.
 pub fn then_name(text: &[u8], items: &[u8], step: Step, events: &mut [u8]) -> Step

@@ -10,8 +10,9 @@ use Rattle.rules.specs.Items.{items as itemsOf}
 use Rattle.syntax.specs.Machine.{selectionSet, selections, close}
 use Rattle.parser.specs.Promise.{took, stopped, stops}
 use Rattle.parser.proofs.Moves.{narrow, was-done, was-stopped, Passed, begun, passed-more}
-use Rattle.parser.proofs.Onward.{ready, onto, below, outcome}
-use Rattle.selections.proofs.Sets.{begins-name, by-field, by-dots, set-deep, set-empty, set-then, set-stop, set-end, set-missing, none-follows, one-follows, closable, ready-at, goes-at, goes-stopped}
+use Rattle.parser.proofs.Onward.{ready, onto, below}
+use Rattle.selections.proofs.Sets.{begins-name, by-field, by-dots, set-deep, set-empty, set-then, set-stop, set-end, set-missing, none-follows, one-follows, closable}
+use Rattle.selections.proofs.Ready.{ready-done, goes-done, goes-outcome, goes-stop}
 use Prim.Native.Nat.{ℕ, _<_, _+_, _-_, _*_}
 use borrow.Fn.Kinds.{In}
 use borrow.Fn.PlainCycle.{Measures, is, falls, and}
@@ -278,22 +279,22 @@ then-selection-set-enum-known-step-2 : (t : ℕ) → then-selection-set-lts.Need
 then-selection-set-enum-known-step-2 t c = search needs
 
 then-selection-set-peek-token-requires : (t : ℕ) → then-selection-set-lts.Need-peek-token-requires (then-selection-set-calls t) (then-selection-set-at t) then-selection-set.Post
-then-selection-set-peek-token-requires t c κs = ((c .before .before .before .before .before .before .pre .1 .0), ready-at (c .before .before .before .before .before .before .args .text .now) (c .before .before .before .before .before .before .args .step) _ _ _ (c .before .step2 .given .1) (c .before .before .before .before .before .before .pre .1 .1) .0)
+then-selection-set-peek-token-requires t c κs = ((c .before .before .before .before .before .before .pre .1 .0), ready-done (c .before .before .before .before .before .before .args .text .now) (c .before .before .before .before .before .before .args .step) _ _ _ (c .before .before .before .before .before .before .pre .1 .1) (c .before .step2 .given .1) .0)
 
 then-selection-set-returns : (t : ℕ) → then-selection-set-lts.Need-returns (then-selection-set-calls t) (then-selection-set-at t) then-selection-set.Post
-then-selection-set-returns t c = goes-at (c .before .before .before .before .before .before .before .before .before .args .step) _ _ _ (c .before .before .before .before .step2 .given .1) (stops refl (set-missing false (c .before .before .before .before .before .before .before .before .before .args .text .now) _ _ (c .before .before .before .before .before .before .before .before .before .args .depth) (c .before .before .peek-token .result) (c .before .before .peek-token .ensures) (c .if1 .taken)))
+then-selection-set-returns t c = goes-done (c .before .before .before .before .before .before .before .before .before .args .step) (c .before .before .before .before .step2 .given .1) (stops refl (set-missing false (c .before .before .before .before .before .before .before .before .before .args .text .now) _ _ (c .before .before .before .before .before .before .before .before .before .args .depth) (c .before .before .peek-token .result) (c .before .before .peek-token .ensures) (c .if1 .taken)))
 
 then-selection-set-selection-set-requires : (t : ℕ) → then-selection-set-lts.Need-selection-set-requires (then-selection-set-calls t) (then-selection-set-at t) then-selection-set.Post
 then-selection-set-selection-set-requires t c κs = (omega (arith, c .before .before .before .before .before .before .before .before .before .before .pre .0), ((c .before .before .before .before .before .before .before .before .before .before .pre .1 .0), (c .before .if1 .left, record { at = _; front = c .before .before .before .peek-token .ensures })))
 
 then-selection-set-returns-2 : (t : ℕ) → then-selection-set-lts.Need-returns-2 (then-selection-set-calls t) (then-selection-set-at t) then-selection-set.Post
-then-selection-set-returns-2 t c = goes-stopped false (c .before .before .before .before .before .before .args .text .now) _ _ _ (c .before .before .before .before .before .before .args .step) _ _ (c .before .step .given .1)
+then-selection-set-returns-2 t c = goes-stop (c .before .before .before .before .before .before .args .step) (c .before .step .given .1)
 
 then-selection-set-same-length : (t : ℕ) → then-selection-set-lts.Need-same-length (then-selection-set-calls t) (then-selection-set-at t) then-selection-set.Post
 then-selection-set-same-length t c = search needs
 
 then-selection-set-returns-3 : (t : ℕ) → then-selection-set-lts.Need-returns-3 (then-selection-set-calls t) (then-selection-set-at t) then-selection-set.Post
-then-selection-set-returns-3 t c = goes-at (c .before .before .before .before .before .before .before .before .before .before .before .before .before .args .step) _ _ _ (c .before .before .before .before .before .before .before .before .step2 .given .1) (outcome (c .before .before .selection-set .ensures _ _ (c .before .before .before .before .before .before .peek-token .ensures)))
+then-selection-set-returns-3 t c = goes-outcome (c .before .before .before .before .before .before .before .before .before .before .before .before .before .args .step) (c .before .before .before .before .before .before .before .before .step2 .given .1) (c .before .before .selection-set .ensures _ _ (c .before .before .before .before .before .before .peek-token .ensures))
 
 pub +field·field+fragment·inline-fragment+selection·selection+selection·selection-set+selection·then-selection-set-spec : {M : Type 1} → statement M
 +field·field+fragment·inline-fragment+selection·selection+selection·selection-set+selection·then-selection-set-spec =

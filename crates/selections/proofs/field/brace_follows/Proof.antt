@@ -1,6 +1,7 @@
 -- `selections::field::brace_follows` meets its contract. Assumes nothing.
 use borrow.Author.Needs.{needs}
-use Rattle.selections.proofs.Sets.{follows-front, follows-none, ready-at}
+use Rattle.selections.proofs.Sets.{follows-front, follows-none}
+use Rattle.selections.proofs.Ready.{ready-done}
 use Rattle.selections.proofs.field.brace_follows.Statement.{statement}
 use Rattle.selections.proofs.field.brace_follows.Tie as tie
 
@@ -11,7 +12,7 @@ enum-known-step : tie.Need-enum-known-step
 enum-known-step c = search needs
 
 peek-token-requires : tie.Need-peek-token-requires
-peek-token-requires c κs = ((c .before .before .before .before .before .pre .0), ready-at (c .before .before .before .before .before .args .text .now) (c .before .before .before .before .before .args .step) _ _ _ (c .before .step .given .1) (c .before .before .before .before .before .pre .1) .0)
+peek-token-requires c κs = ((c .before .before .before .before .before .pre .0), ready-done (c .before .before .before .before .before .args .text .now) (c .before .before .before .before .before .args .step) _ _ _ (c .before .before .before .before .before .pre .1) (c .before .step .given .1) .0)
 
 returns : tie.Need-returns
 returns c = follows-none (c .before .before .before .before .args .text .now) 15 (c .before .before .before .before .args .step) _ _ (c .enum-told .given .1)
