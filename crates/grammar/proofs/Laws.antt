@@ -3,6 +3,7 @@ use Prim.Native.Nat.{ℕ, _+_, _≤_, _<_, min}
 use mathlib.Core.Path.{_≡_, refl, sym, ap, _∙_}
 use mathlib.Core.Bool.{Bool, true, false}
 use mathlib.Core.List.{List, [], _∷_, _++_}
+use mathlib.Core.Logic.{_⊎_, inl, inr}
 use native.Mathlib.Omega.{arith}
 use borrow.Author.Tests.{le-leb, lt-leb, le-ltb, eq-eqb}
 use lib.Dec.{leb}
@@ -16,13 +17,16 @@ use Rattle.reader.proofs.Laws.{done-when, row-0}
 use Rattle.syntax.specs.Token.{eof, Token, token}
 use Rattle.syntax.specs.Words.{tokens}
 use Rattle.syntax.specs.Machine.{Read, refused, accepted}
-use Rattle.syntax.proofs.TextTokens.{text-tokens}
+use Rattle.syntax.proofs.TextTokens.{text-tokens, text-ends}
 use Rattle.syntax.proofs.ValueComplete.{value-complete, constant-complete}
 use Rattle.syntax.proofs.TypeComplete.{type-complete}
 use Rattle.syntax.proofs.SetComplete.{set-complete}
+use Rattle.syntax.proofs.Sound.{NoEof}
 use Rattle.syntax.proofs.ValueSound.{value-exact}
 use Rattle.syntax.proofs.TypeSound.{type-exact}
 use Rattle.syntax.proofs.SetSound.{set-exact}
+use Rattle.syntax.proofs.Refusals.{refusal-number, value-refusal, set-refusal}
+use Rattle.syntax.proofs.TypeRefusals.{readType-refusal}
 use Rattle.syntax.proofs.OneReading.{value-one, ty-one, set-one}
 use Rattle.grammar.specs.declared.Entry.{Entry}
 use Rattle.grammar.specs.declared.Entry.the-variants.{Value, Constant, Ty, SelectionSet}
@@ -49,7 +53,7 @@ pub record Accepted (e : Entry) (d : ℕ) (t : List ℕ) (es : List Item) : Type
   pub sentence : Sentence e d t tree
   pub events : es ≡ treeEvents e tree
 
-exact-by : (e : Entry) (d : ℕ) (us : List Token) (u : Token) (es : List Item) → Rattle.syntax.proofs.Sound.NoEof us → readOf e d (us ++ (u ∷ [])) ≡ accepted es
+exact-by : (e : Entry) (d : ℕ) (us : List Token) (u : Token) (es : List Item) → NoEof us → readOf e d (us ++ (u ∷ [])) ≡ accepted es
     → (x : Tree e) × (treeDepth e x ≤ d) × (us ≡ treeTokens e x) × (es ≡ treeEvents e x)
 unfolding readOf
 exact-by Value d us u es n h = value-exact false d us u es n h
@@ -63,7 +67,7 @@ sound e d t es h =
     let x = exact-by e d (w .others) (w .end) es (w .no) (rw (w .split) at h) in
     record {
       tree = x .0;
-      sentence = record { deep = x .1; spells = w .split ∙ rw (x .2, w .last) };
+      sentence = record { deep = x .1; spells = w .split ∙ ap (λ (us : List Token). us ++ (w .end ∷ [])) (x .2) ∙ ap (λ (u : Token). treeTokens e (x .0) ++ (u ∷ [])) (w .is) };
       events = x .3;
     }
 
@@ -74,11 +78,28 @@ one-tree Constant x y h = value-one x y h
 one-tree Ty x y h = ty-one x y h
 one-tree SelectionSet x y h = set-one x y h
 
+among : {n : ℕ} → (n ≡ 7) ⊎ ((n ≡ 8) ⊎ (n ≡ 9)) → (7 ≤ n) × (n ≤ 9)
+among (inl h) = (omega arith, omega arith)
+among (inr (inl h)) = (omega arith, omega arith)
+among (inr (inr h)) = (omega arith, omega arith)
+
+among-types : {n : ℕ} {A : Type 0} → ((n ≡ 7) × A) ⊎ (n ≡ 9) → (7 ≤ n) × (n ≤ 9)
+among-types (inl h) = let k = h .0 in (omega arith, omega arith)
+among-types (inr h) = (omega arith, omega arith)
+
+-- what is refused has the number 7, 8 or 9
+pub refused-number : (e : Entry) (d : ℕ) (t : List ℕ) (n p : ℕ) → readOf e d (tokens t) ≡ refused n p → (7 ≤ n) × (n ≤ 9)
+unfolding readOf
+refused-number Value d t n p h = among (refusal-number (value-refusal false d (tokens t) n p (text-ends t) h))
+refused-number Constant d t n p h = among (refusal-number (value-refusal true d (tokens t) n p (text-ends t) h))
+refused-number Ty d t n p h = among-types (readType-refusal d (tokens t) n p (text-ends t) h .number)
+refused-number SelectionSet d t n p h = among (refusal-number (set-refusal d (tokens t) n p (text-ends t) h))
+
 -- ---- over the answers and the tapes
 
 module _ (e : Entry) (t : List ℕ) (limit depth : ℕ) (items events : List ℕ) where
   -- where all items are read and none is an error, the reading of the tokens is the answer
-  clear-read : Clear t limit depth items
+  pub clear-read : Clear t limit depth items
       → (grammarAnswer e t limit depth items events ≡ readAnswer (length t) (length (itemsOf t)) (room events) (readOf e depth (tokens t)))
       × (grammarItems t limit depth items ≡ over items (entries (itemsOf t)))
       × (grammarEvents e t limit depth items events ≡ countedEvents events (readOf e depth (tokens t)))
@@ -114,13 +135,3 @@ module _ (e : Entry) (t : List ℕ) (limit depth : ℕ) (items events : List ℕ
       let h = complete e depth t x s in
       let b = lt-leb (length (treeEvents e x)) (room events) l in
       (r .0 ∙ rw (h, b), r .1, r .2 ∙ rw (h, b))
-
-  -- the other way round: 0 and 10 are answered to sentences alone
-  pub done-sentence : Clear t limit depth items → (grammarAnswer e t limit depth items events .number ≡ 0) → (x : Tree e) × Sentence e depth t x
-  done-sentence c z = by-read (readOf e depth (tokens t)) refl
-    where
-      n : readAnswer (length t) (length (itemsOf t)) (room events) (readOf e depth (tokens t)) .number ≡ 0
-      n = rw (← clear-read c .0) z
-      by-read : (r : Read) → readOf e depth (tokens t) ≡ r → (x : Tree e) × Sentence e depth t x
-      by-read (accepted es) h = let a = sound e depth t es h in (a .tree, a .sentence)
-      by-read (refused k p) h = ?

@@ -5,3 +5,4 @@ pub mod Readings
 pub mod Rows
 pub mod Starts
 pub mod Laws
+pub mod Exactly

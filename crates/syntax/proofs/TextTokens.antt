@@ -13,7 +13,7 @@ use Rattle.tiles.specs.Tiles.{tiles, eof as eofItem}
 use Rattle.tiles.proofs.Every.{Every}
 use Rattle.rules.specs.Items.{itemAt}
 use Rattle.rules.proofs.Codes.{code-at}
-use Rattle.syntax.specs.Token.{eof, plain, wordTrue, wordFalse, wordNull, wordOn, Token}
+use Rattle.syntax.specs.Token.{eof, plain, wordTrue, wordFalse, wordNull, wordOn, Token, token}
 use Rattle.syntax.specs.Words.{same, wordOf, tokenOf, ignored, significant, tokens}
 use Rattle.syntax.proofs.Sound.{NoEof}
 use Rattle.syntax.proofs.Refusals.{EndsEof}
@@ -78,6 +78,7 @@ pub record TextTokens (t : List ℕ) : Type 0 where
   pub no : NoEof others
   pub ended : end .kind ≡ eof
   pub place : end .start ≡ length t
+  pub is : end ≡ token eof (length t) 0
 
 pub text-tokens : (t : List ℕ) → TextTokens t
 unfolding significant tokenOf ignored
@@ -89,6 +90,7 @@ text-tokens t =
       no = no-eof t (tiles itemAt 0 0 t) (codes 0 0 t);
       ended = refl;
       place = omega arith;
+      is = ap (λ (n : ℕ). token eof n 0) (omega arith);
     }
 
 -- the last token of a text is Eof
