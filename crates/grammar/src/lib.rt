@@ -29,8 +29,15 @@ fn begin(entry: Entry, text: &[u8], items: &[u8], depth: usize, events: &mut [u8
     match entry {
         Entry::Value => values::value(text, items, false, 0, depth, events, 0),
         Entry::Constant => values::value(text, items, true, 0, depth, events, 0),
-        Entry::Ty => values::value(text, items, true, 0, depth, events, 0),
-        Entry::SelectionSet => values::value(text, items, true, 0, depth, events, 0),
+        Entry::Ty => types::ty(text, items, 0, depth, events, 0),
+        Entry::SelectionSet => {
+            let start = Step::Done {
+                next: 0,
+                end: 0,
+                out: 0,
+            };
+            selections::then_selection_set(text, items, start, depth, events)
+        }
     }
 }
 

@@ -3,7 +3,69 @@ pub use reader::Answer;
 pub use reader::part;
 pub use reader::read_items;
 ghost use mathlib.Core.Path.{_≡_};
+ghost use Rattle.grammar.specs.declared.Entry.the-variants.{Value, Constant, Ty, SelectionSet};
+ghost use Rattle.grammar.specs.Answers.{grammarAnswer, grammarItems, grammarEvents};
 ghost use Rattle.paumelu.specs.Interface.{interfaceAnswer, interfaceTape};
+
+// Reads a value that fills the text: its items to one tape, its events to the other.
+pub fn read_value(
+    text: &[u8],
+    limit: usize,
+    depth: usize,
+    items: &mut [u8],
+    events: &mut [u8],
+) -> Answer
+    ensures answer { λ r. ⌜ r ≡ grammarAnswer Value (now (text .entry)) limit depth (now (items .entry)) (now (events .entry)) ⌝ }
+    ensures items { λ _. ⌜ now (items .exit) ≡ grammarItems (now (text .entry)) limit depth (now (items .entry)) ⌝ }
+    ensures events { λ _. ⌜ now (events .exit) ≡ grammarEvents Value (now (text .entry)) limit depth (now (items .entry)) (now (events .entry)) ⌝ }
+{
+    grammar::read(grammar::Entry::Value, text, limit, depth, items, events)
+}
+
+// Reads a constant value that fills the text: its items to one tape, its events to the other.
+pub fn read_constant(
+    text: &[u8],
+    limit: usize,
+    depth: usize,
+    items: &mut [u8],
+    events: &mut [u8],
+) -> Answer
+    ensures answer { λ r. ⌜ r ≡ grammarAnswer Constant (now (text .entry)) limit depth (now (items .entry)) (now (events .entry)) ⌝ }
+    ensures items { λ _. ⌜ now (items .exit) ≡ grammarItems (now (text .entry)) limit depth (now (items .entry)) ⌝ }
+    ensures events { λ _. ⌜ now (events .exit) ≡ grammarEvents Constant (now (text .entry)) limit depth (now (items .entry)) (now (events .entry)) ⌝ }
+{
+    grammar::read(grammar::Entry::Constant, text, limit, depth, items, events)
+}
+
+// Reads a type that fills the text: its items to one tape, its events to the other.
+pub fn read_type(
+    text: &[u8],
+    limit: usize,
+    depth: usize,
+    items: &mut [u8],
+    events: &mut [u8],
+) -> Answer
+    ensures answer { λ r. ⌜ r ≡ grammarAnswer Ty (now (text .entry)) limit depth (now (items .entry)) (now (events .entry)) ⌝ }
+    ensures items { λ _. ⌜ now (items .exit) ≡ grammarItems (now (text .entry)) limit depth (now (items .entry)) ⌝ }
+    ensures events { λ _. ⌜ now (events .exit) ≡ grammarEvents Ty (now (text .entry)) limit depth (now (items .entry)) (now (events .entry)) ⌝ }
+{
+    grammar::read(grammar::Entry::Ty, text, limit, depth, items, events)
+}
+
+// Reads a selection set that fills the text: its items to one tape, its events to the other.
+pub fn read_selection_set(
+    text: &[u8],
+    limit: usize,
+    depth: usize,
+    items: &mut [u8],
+    events: &mut [u8],
+) -> Answer
+    ensures answer { λ r. ⌜ r ≡ grammarAnswer SelectionSet (now (text .entry)) limit depth (now (items .entry)) (now (events .entry)) ⌝ }
+    ensures items { λ _. ⌜ now (items .exit) ≡ grammarItems (now (text .entry)) limit depth (now (items .entry)) ⌝ }
+    ensures events { λ _. ⌜ now (events .exit) ≡ grammarEvents SelectionSet (now (text .entry)) limit depth (now (items .entry)) (now (events .entry)) ⌝ }
+{
+    grammar::read(grammar::Entry::SelectionSet, text, limit, depth, items, events)
+}
 
 // Reads items for C, by the entry code 0: the number is the result; place, items and events are written behind references.
 #[no_mangle]

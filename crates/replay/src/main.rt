@@ -106,6 +106,27 @@ fn read_by_interface(entry: u64, text: &[u8], limit: u64, items: &mut [u8]) -> p
     }
 }
 
+// Reads by one of the grammar's entries, 1 to 4.
+fn read_grammar(
+    entry: u8,
+    text: &[u8],
+    limit: usize,
+    depth: usize,
+    items: &mut [u8],
+    events: &mut [u8],
+) -> paumelu::Answer {
+    if entry == 1 {
+        return paumelu::read_value(text, limit, depth, items, events);
+    }
+    if entry == 2 {
+        return paumelu::read_constant(text, limit, depth, items, events);
+    }
+    if entry == 3 {
+        return paumelu::read_type(text, limit, depth, items, events);
+    }
+    paumelu::read_selection_set(text, limit, depth, items, events)
+}
+
 // Answers one case whose tapes are lent at their lengths.
 fn answer(
     entry: u8,
@@ -128,7 +149,11 @@ fn answer(
         let a = read_by_interface(depth, text, limit, items);
         return write_answer(a, items, events);
     }
-    refuse(b"replay: an entry that is unknown or not built yet\n")
+    if entry > 6 {
+        return refuse(b"replay: an unknown entry\n");
+    }
+    let a = read_grammar(entry, text, limit as usize, depth as usize, items, events);
+    write_answer(a, items, events)
 }
 
 // Reads and answers one case; false where the run ends.
