@@ -54,6 +54,11 @@ Below notes (suc r) (t ∷ ts) = t .kind ≡ bracketL → Follows (baseAt r ts) 
 abbrev pub Noted : List ℕ → (depth : ℕ) → List Token → Type 0
 Noted notes d ts = Follows (baseAt d ts) (getD notes d 0) × Below notes d ts
 
+-- at depth d the notes say k now, and below it what they said
+pub record Marked (notes notes′ : List ℕ) (d k : ℕ) : Type 0 where
+  pub here : getD notes′ d 0 ≡ k
+  pub under : (i : ℕ) → i < d → getD notes′ i 0 ≡ getD notes i 0
+
 -- a walk over what reads as x: it was read, and `after` holds; if `before` held, its events were written; or it was refused
 pub data Walked (t : List ℕ) (x : TypeRead) (before after : Type 0) (tape : List ℕ) (out : ℕ) (tape′ : List ℕ) : Step → Type 0 where
   walked : {next end out′ : ℕ} (es : List Item) → x ≡ typed es end (rest t next) → length tape′ ≡ length tape → (before → Puts tape out tape′ out′ es) → after

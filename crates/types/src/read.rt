@@ -6,7 +6,7 @@ ghost use mathlib.Core.Bool.{Bool};
 ghost use mathlib.Core.List.{[], _∷_};
 ghost use Prim.Native.Nat.{ℕ, _+_, _^_, _≤_, _<_};
 ghost use lib.Dec.{eqb};
-ghost use lib.ListN.{length, getD, set};
+ghost use lib.ListN.{length, getD};
 ghost use Rattle.base.specs.Text.{pick};
 ghost use Rattle.rules.specs.Items.{items as itemsOf};
 ghost use Rattle.syntax.specs.Token.{bang, opens};
@@ -16,7 +16,7 @@ ghost use Rattle.parser.specs.View.{Holds, Front, Seen, rest};
 ghost use Rattle.parser.specs.Events.{Puts};
 ghost use Rattle.parser.specs.Promise.{Outcome};
 ghost use Rattle.types.specs.Promise.{TypeOutcome};
-ghost use Rattle.types.specs.Walk.{baseAt, kindFirst, Below, Noted, Walked, Closed, Ended};
+ghost use Rattle.types.specs.Walk.{baseAt, Below, Noted, Marked, Walked, Closed, Ended};
 
 // A named type is due.
 pub fn named_type(text: &[u8], items: &[u8], at: usize, events: &mut [u8], out: usize) -> Step
@@ -39,16 +39,16 @@ pub fn named_type(text: &[u8], items: &[u8], at: usize, events: &mut [u8], out: 
 }
 
 // What follows the type with so much depth left is noted.
-fn note(follows: &mut [u8; 501], depth: usize, kind: u8)
-    requires { ⌜ depth ≤ 500 ⌝ }
-    ensures { λ _. ⌜ now (follows .exit) ≡ set (now (follows .entry)) depth kind ⌝ }
+fn note(follows: &mut [u8], depth: usize, kind: u8)
+    requires { ⌜ depth < length (now follows) ⌝ }
+    ensures { λ _. ⌜ Marked (now (follows .entry)) (now (follows .exit)) depth kind ⌝ }
 {
     follows[depth] = kind;
 }
 
 // What was noted of the type with so much depth left.
-fn noted(follows: &[u8; 501], depth: usize) -> u8
-    requires { ⌜ depth ≤ 500 ⌝ }
+fn noted(follows: &[u8], depth: usize) -> u8
+    requires { ⌜ depth < length (now follows) ⌝ }
     ensures { λ r. ⌜ r ≡ getD (now (follows .entry)) depth 0 ⌝ }
 {
     follows[depth]
@@ -126,13 +126,13 @@ fn base(
     items: &[u8],
     token: Peeked,
     depth: usize,
-    follows: &mut [u8; 501],
+    follows: &mut [u8],
     events: &mut [u8],
     out: usize,
 ) -> Step
     requires { ⌜ Holds (now text) (now items) ⌝ }
     requires { ⌜ Seen (now text) token ⌝ }
-    requires { ⌜ depth ≤ 500 ⌝ }
+    requires { ⌜ depth < length (now follows) ⌝ }
     ensures { λ r. ⌜ ((at : ℕ) → Front (now (text .entry)) at token → Walked (now (text .entry)) (baseAt depth (rest (now (text .entry)) at)) (Below (now (follows .entry)) depth (rest (now (text .entry)) at)) (Below (now (follows .exit)) depth (rest (now (text .entry)) at)) (now (events .entry)) out (now (events .exit)) r) ⌝ }
 {
     if values::is_name(token.kind) {
@@ -172,13 +172,13 @@ fn walk(
     items: &[u8],
     at: usize,
     depth: usize,
-    follows: &mut [u8; 501],
+    follows: &mut [u8],
     events: &mut [u8],
     out: usize,
 ) -> Step
     requires { ⌜ Holds (now text) (now items) ⌝ }
     requires { ⌜ at < length (itemsOf (now text)) ⌝ }
-    requires { ⌜ depth ≤ 500 ⌝ }
+    requires { ⌜ depth < length (now follows) ⌝ }
     ensures { λ r. ⌜ Walked (now (text .entry)) (typeAt depth (rest (now (text .entry)) at)) (Noted (now (follows .entry)) depth (rest (now (text .entry)) at)) (Noted (now (follows .exit)) depth (rest (now (text .entry)) at)) (now (events .entry)) out (now (events .exit)) r ⌝ }
 {
     let token = parser::peek_token(text, items, at);
