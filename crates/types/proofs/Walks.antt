@@ -56,6 +56,11 @@ below-same notes notes′ (suc r) f (t ∷ ts) b = λ k.
     let n = b k in
     (rw (f r (omega arith)) (n .0), below-same notes notes′ r (λ i h. f i (omega arith)) ts (n .1))
 
+-- an answer, by its case
+pub walked-as : {t : List ℕ} {x : TypeRead} {before after : Type 0} {tape : List ℕ} {out : ℕ} {tape′ : List ℕ} {r r′ : Step} → r ≡ r′
+    → Walked t x before after tape out tape′ r → Walked t x before after tape out tape′ r′
+walked-as {t} {x} {before} {after} {tape} {out} {tape′} e w = subst (λ (s : Step). Walked t x before after tape out tape′ s) e w
+
 -- where p is the first token
 module _ (t : List ℕ) (at : ℕ) (p : Peeked) (F : Front t at p) where
   pub base-name : (d : ℕ) → isName (p .kind) ≡ true
@@ -121,12 +126,12 @@ module _ (t : List ℕ) (at : ℕ) (p : Peeked) (F : Front t at p) where
   -- a type: what the notes say of its `!`, the type but for its `!`, and its `!`
   module _ (d : ℕ) (notes notes′ notes″ : List ℕ) {tape tape₁ tape₂ : List ℕ} {out o : ℕ}
       (w : Puts tape out tape₁ o (pick (eqb (getD notes d 0) bang) (opens 14 (p .start) ∷ []) [])) where
-    pub type-walk : {tape₃ : List ℕ} {n e q : ℕ} {r : Step}
+    type-more : {tape₃ : List ℕ} {n e q : ℕ} {r : Step}
         → Walked t (baseAt d (rest t at)) (Below notes d (rest t at)) (Below notes′ d (rest t at)) tape₁ o tape₂ (Done n e q)
         → (s : Peeked) → Front t n s → Marked notes′ notes″ d (s .kind) → Ended t (p .start) n e tape₂ q tape₃ r
         → Walked t (typeAt d (rest t at)) (Noted notes d (rest t at)) (Noted notes″ d (rest t at)) tape out tape₃ r
     unfolding withBang
-    type-walk (walked es x l g a i) s G mk (banged {next = m} u f c j v) =
+    type-more (walked es x l g a i) s G mk (banged {next = m} u f c j v) =
         walked {next = m} {end = endOf u} (opens 14 (p .start) ∷ (es ++ (tokenEvent u ∷ closes 14 (p .start) (endOf u) ∷ [])))
         (base-more d _ x ∙ rw (f, c)) (v .kept ∙ l ∙ w .kept)
         (λ b.
@@ -134,7 +139,7 @@ module _ (t : List ℕ) (at : ℕ) (p : Peeked) (F : Front t at p) where
         let h′ : eqb (getD notes d 0) bang ≡ true = ap (λ (n : ℕ). eqb n bang) h ∙ c in
         puts-then (rw h′ at w) (puts-then (g (b .1)) v))
         (rw (x, G .first) (mk .here), below-same notes′ notes″ d (mk .under) (rest t at) a) j
-    type-walk {n = n} {e = e} {q = q} (walked es x l g a i) s G mk (bare u us f c y) =
+    type-more {n = n} {e = e} {q = q} (walked es x l g a i) s G mk (bare u us f c y) =
         walked {next = n} {end = e} {out′ = q} es (base-more d _ x ∙ rw (f, c)) (ap length y ∙ l ∙ w .kept)
         (λ b.
         let h : getD notes d 0 ≡ u .kind = rw (x, f) at (b .0) in
@@ -142,16 +147,22 @@ module _ (t : List ℕ) (at : ℕ) (p : Peeked) (F : Front t at p) where
         rw y (puts-then (rw h′ at w) (g (b .1))))
         (rw (x, G .first) (mk .here), below-same notes′ notes″ d (mk .under) (rest t at) a) i
 
-    pub type-stop : {n q : ℕ}
-        → Walked t (baseAt d (rest t at)) (Below notes d (rest t at)) (Below notes′ d (rest t at)) tape₁ o tape₂ (Stop n q)
+    pub type-walk : {tape₃ : List ℕ} {n e q : ℕ} {v r : Step} → v ≡ Done n e q
+        → Walked t (baseAt d (rest t at)) (Below notes d (rest t at)) (Below notes′ d (rest t at)) tape₁ o tape₂ v
+        → (s : Peeked) → Front t n s → Marked notes′ notes″ d (s .kind) → Ended t (p .start) n e tape₂ q tape₃ r
+        → Walked t (typeAt d (rest t at)) (Noted notes d (rest t at)) (Noted notes″ d (rest t at)) tape out tape₃ r
+    type-walk h b = type-more (walked-as h b)
+
+    pub type-stop : {n q : ℕ} {v : Step} → v ≡ Stop n q
+        → Walked t (baseAt d (rest t at)) (Below notes d (rest t at)) (Below notes′ d (rest t at)) tape₁ o tape₂ v
         → Walked t (typeAt d (rest t at)) (Noted notes d (rest t at)) (Noted notes″ d (rest t at)) tape out tape₂ (Stop n q)
-    type-stop (refused l x) = refused (l ∙ w .kept) (base-more d _ x)
+    type-stop {n} {q} h b = go (walked-as h b)
+      where
+        go : Walked t (baseAt d (rest t at)) (Below notes d (rest t at)) (Below notes′ d (rest t at)) tape₁ o tape₂ (Stop n q)
+            → Walked t (typeAt d (rest t at)) (Noted notes d (rest t at)) (Noted notes″ d (rest t at)) tape out tape₂ (Stop n q)
+        go (refused l x) = refused (l ∙ w .kept) (base-more d _ x)
 
--- an answer by its case, and what it tells
-pub walked-as : {t : List ℕ} {x : TypeRead} {before after : Type 0} {tape : List ℕ} {out : ℕ} {tape′ : List ℕ} {r r′ : Step} → r ≡ r′
-    → Walked t x before after tape out tape′ r → Walked t x before after tape out tape′ r′
-walked-as {t} {x} {before} {after} {tape} {out} {tape′} e w = subst (λ (s : Step). Walked t x before after tape out tape′ s) e w
-
+-- what an answer tells
 pub walked-inside : {t : List ℕ} {x : TypeRead} {before after : Type 0} {tape : List ℕ} {out : ℕ} {tape′ : List ℕ} {n e o : ℕ}
     → Walked t x before after tape out tape′ (Done n e o) → n < length (items t)
 walked-inside (walked es x l g a i) = i

@@ -121,7 +121,7 @@ fn end_type(
 
 // A type but for its `!`, whose first token is given, with so much depth left: what follows its item types is noted, and its events are those
 // that the notes say.
-fn base(
+fn base_type(
     text: &[u8],
     items: &[u8],
     token: Peeked,
@@ -183,7 +183,7 @@ fn walk(
 {
     let token = parser::peek_token(text, items, at);
     let opened = open_noted(noted(follows, depth), token.start, events, out);
-    match base(text, items, token, depth, follows, events, opened) {
+    match base_type(text, items, token, depth, follows, events, opened) {
         Step::Stop { number, place } => Step::Stop { number, place },
         Step::Done { next, end, out: o } => {
             let t = parser::peek_token(text, items, next);
@@ -201,7 +201,7 @@ pub fn ty(text: &[u8], items: &[u8], at: usize, depth: usize, events: &mut [u8],
     ensures { λ r. ⌜ TypeOutcome (now (text .entry)) depth at (now (events .entry)) out (now (events .exit)) r ⌝ }
 {
     let mut follows = [0u8; 501];
-    let mut none = [0u8; 1];
+    let mut none = [0u8; 0];
     match walk(text, items, at, depth, &mut follows, &mut none, 0) {
         Step::Stop { number, place } => Step::Stop { number, place },
         Step::Done {
