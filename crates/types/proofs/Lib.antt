@@ -1,2 +1,3 @@
 -- Laws of types.
 pub mod Steps
+pub mod Walks

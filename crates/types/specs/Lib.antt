@@ -1,2 +1,3 @@
 -- What the contracts of types cite.
 pub mod Promise
+pub mod Walk

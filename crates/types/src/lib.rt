@@ -1,4 +1,5 @@
 // Types, with events. A type calls itself for its item, with remaining depth falling.
-mod ty;
+mod read;
 
-pub use ty::named_type;
+pub use read::named_type;
+pub use read::ty;

@@ -9,8 +9,8 @@ use Rattle.parser.proofs.Moves.{narrow, took-one, stop-one}
 use Rattle.values.proofs.Steps.{name-kind}
 use Rattle.types.proofs.Steps.{at-named-type, no-named-type}
 use borrow.Author.Needs.{needs}
-use Rattle.types.proofs.ty.named_type.Statement.{statement}
-use Rattle.types.proofs.ty.named_type.Tie as tie
+use Rattle.types.proofs.read.named_type.Statement.{statement}
+use Rattle.types.proofs.read.named_type.Tie as tie
 
 peek-token-requires : tie.Need-peek-token-requires
 peek-token-requires c κs = search needs
