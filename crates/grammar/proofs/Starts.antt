@@ -1,12 +1,16 @@
 -- What the entries' functions promise, as readings from the first token on. Assumes nothing.
-use Prim.Native.Nat.{ℕ}
+use Prim.Native.Nat.{ℕ, _<_}
 use mathlib.Core.Path.{_≡_, refl, sym, ap, _∙_}
 use mathlib.Core.Bool.{Bool, true, false}
 use mathlib.Core.List.{List, [], _∷_, _++_, append-nil}
+use native.Mathlib.Omega.{arith}
 use lib.Dec.{eqb}
+use lib.ListN.{length}
 use Rattle.base.specs.Text.{pick}
 use Rattle.base.specs.Item.{Item}
 use Rattle.base.proofs.Tests.{by}
+use Rattle.rules.specs.Items.{items}
+use Rattle.rules.proofs.Tiling.{eof-position}
 use Rattle.syntax.specs.Token.{eof, Token}
 use Rattle.syntax.specs.Words.{tokens}
 use Rattle.syntax.specs.Machine.{Sym, value, selectionSet, step, Read, refused, accepted, emits, run, readSelectionSet}
@@ -16,6 +20,9 @@ use Rattle.parser.specs.declared.Step.the-variants.{Done, Stop}
 use Rattle.parser.specs.View.{rest}
 use Rattle.parser.specs.Promise.{Outcome, took, stopped, Goes, goes, stops}
 use Rattle.types.specs.Promise.{TypeOutcome, given, withheld}
+use Rattle.grammar.specs.declared.Entry.{Entry}
+use Rattle.grammar.specs.declared.Entry.the-variants.{Value, Constant, Ty, SelectionSet}
+use Rattle.grammar.specs.Answers.{readOf}
 use Rattle.grammar.specs.Promise.{Begins, reads}
 use Rattle.grammar.specs.Promise as promise
 
@@ -40,20 +47,43 @@ untyped-whole : {x : TypeRead} {n p : ℕ} → x ≡ untyped n p → wholeType x
 unfolding wholeType
 untyped-whole e = rw e
 
-pub from-value : {t tape tape′ : List ℕ} {r : Step} (c : Bool) (d : ℕ) → Outcome c t (value d ∷ []) [] 0 0 tape 0 tape′ r
+from-value : {t tape tape′ : List ℕ} {r : Step} (c : Bool) (d : ℕ) → Outcome c t (value d ∷ []) [] 0 0 tape 0 tape′ r
     → Begins (run c (value d ∷ []) 0 (tokens t)) t tape tape′ r
 unfolding rest
 from-value {t} c d (took {next = next} {end = end} h) =
     reads {end = end} (h .went .events) (h .went .puts) (h .went .inside) (h .went .reads [] ∙ rw (end-run c end (rest t next)))
 from-value c d (stopped k h) = promise.Begins.refuses k (h [])
 
-pub from-set : {t tape tape′ : List ℕ} {r : Step} (d : ℕ) → Goes false t (selectionSet d ∷ []) [] tape tape′ (Done 0 0 0) r
+from-set : {t tape tape′ : List ℕ} {r : Step} (d : ℕ) → Goes false t (selectionSet d ∷ []) [] tape tape′ (Done 0 0 0) r
     → Begins (readSelectionSet d (tokens t)) t tape tape′ r
 unfolding rest
 from-set d (goes h) = reads (h .events) (h .puts) (h .inside) (h .reads [])
 from-set d (stops k h) = promise.Begins.refuses k (h [])
 
-pub from-type : {t tape tape′ : List ℕ} {r : Step} (d : ℕ) → TypeOutcome t d 0 tape 0 tape′ r → Begins (readType d (tokens t)) t tape tape′ r
+from-type : {t tape tape′ : List ℕ} {r : Step} (d : ℕ) → TypeOutcome t d 0 tape 0 tape′ r → Begins (readType d (tokens t)) t tape tape′ r
 unfolding rest
 from-type {t} d (given {next = next} {end = end} es h w i) = reads es w i (ap wholeType h ∙ end-type es end (rest t next))
 from-type d (withheld k h) = promise.Begins.refuses k (untyped-whole h)
+
+-- ---- by entry
+
+-- there is a first item: Eof, if no other
+pub some-item : (t : List ℕ) → 0 < length (items t)
+some-item t = let h = eof-position t in omega arith
+
+module _ {t tape tape′ : List ℕ} {r : Step} (e : Entry) (d : ℕ) where
+  pub by-value : e ≡ Value → Outcome false t (value d ∷ []) [] 0 0 tape 0 tape′ r → Begins (readOf e d (tokens t)) t tape tape′ r
+  unfolding readOf
+  by-value q h = rw q (from-value false d h)
+
+  pub by-constant : e ≡ Constant → Outcome true t (value d ∷ []) [] 0 0 tape 0 tape′ r → Begins (readOf e d (tokens t)) t tape tape′ r
+  unfolding readOf
+  by-constant q h = rw q (from-value true d h)
+
+  pub by-type : e ≡ Ty → TypeOutcome t d 0 tape 0 tape′ r → Begins (readOf e d (tokens t)) t tape tape′ r
+  unfolding readOf
+  by-type q h = rw q (from-type d h)
+
+  pub by-set : e ≡ SelectionSet → Goes false t (selectionSet d ∷ []) [] tape tape′ (Done 0 0 0) r → Begins (readOf e d (tokens t)) t tape tape′ r
+  unfolding readOf
+  by-set q h = rw q (from-set d h)
