@@ -108,8 +108,8 @@ module _ (e : Entry) (t : List ℕ) (limit depth : ℕ) (items events : List ℕ
       let r = row-0 t limit items (record { short = c .short; utf8 = c .utf8 }) (c .admitted) in
       let n : answerOf t limit items .items ≡ length (itemsOf t) = ap (λ (a : Answer). a .items) (r .0) in
       let p = parsed e t limit depth items events (c .allowed) (answerOf t limit items) (tapeOf t limit items) refl refl z
-              (firstError (itemsOf t)) refl (rw n (omega (arith, c .faultless)))
-              (readAnswer (length t) (answerOf t limit items .items) (room events) (readOf e depth (tokens t))) (countedEvents events (readOf e depth (tokens t))) refl refl in
+      (firstError (itemsOf t)) refl (rw n (omega (arith, c .faultless)))
+      (readAnswer (length t) (answerOf t limit items .items) (room events) (readOf e depth (tokens t))) (countedEvents events (readOf e depth (tokens t))) refl refl in
       (rw (← n) (sym (p .0)), sym (p .1 .0) ∙ r .1, sym (p .1 .1))
 
   -- a sentence whose events have room: 0, and they are on the tape

@@ -20,7 +20,7 @@ use Rattle.rules.specs.Items.{fractionFault, exponentFault, numberFault, dotFau
 use Rattle.reader.specs.Answers.{answer, givenAnswer, givenTape, answerOf, tapeOf}
 use Rattle.syntax.specs.Token.{isName, isEnum}
 use Rattle.syntax.specs.Words.{same, wordOf, tokenOf, ignored, significant}
-use Rattle.syntax.specs.Machine.{atValue, atItems, atFields, atName, step, run as machineRun}
+use Rattle.syntax.specs.Machine.{atValue, atItems, atFields, atName, atColon, step, run as machineRun}
 use Rattle.grammar.specs.declared.Entry.the-variants.{Value, Constant}
 use Rattle.grammar.specs.Answers.{readOf, isError, firstError, readAnswer, itemsAnswer, grammarAnswer, countedEvents, grammarEvents}
 
@@ -83,6 +83,6 @@ unfolding tiles itemAt errorAt tokenAt numberBy numberToken numberFault fraction
     stringAt codeOf stringScan quotes escaped block scan after inText noDigit whole wholeTrail wholeBraced run span blankBy blank wholeSize
     integerSize fractionSize signedSize exponentSize size width scalar digit nonzero letter nameStart nameContinue lineEnd exponentMark sign
     afterNumber escapedCharacter hexDigit hexValue leadSurrogate trailSurrogate bytes8 entries sequenceBy sequence wellFormed checkedOf
-    givenAnswer givenTape answerOf tapeOf same wordOf tokenOf ignored significant isName isEnum atValue atItems atFields atName step machineRun
+    givenAnswer givenTape answerOf tapeOf same wordOf tokenOf ignored significant isName isEnum atValue atItems atFields atName atColon step machineRun
     readOf isError firstError readAnswer itemsAnswer grammarAnswer countedEvents grammarEvents
 cases = (refl, refl, refl, refl, refl, refl, refl, refl, refl, refl, refl, refl, refl, refl, refl, refl, refl, refl)

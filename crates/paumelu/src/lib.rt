@@ -64,7 +64,14 @@ pub fn read_selection_set(
     ensures items { λ _. ⌜ now (items .exit) ≡ grammarItems (now (text .entry)) limit depth (now (items .entry)) ⌝ }
     ensures events { λ _. ⌜ now (events .exit) ≡ grammarEvents SelectionSet (now (text .entry)) limit depth (now (items .entry)) (now (events .entry)) ⌝ }
 {
-    grammar::read(grammar::Entry::SelectionSet, text, limit, depth, items, events)
+    grammar::read(
+        grammar::Entry::SelectionSet,
+        text,
+        limit,
+        depth,
+        items,
+        events,
+    )
 }
 
 // Reads items for C, by the entry code 0: the number is the result; place, items and events are written behind references.
