@@ -119,6 +119,16 @@ fn end_type(
     }
 }
 
+// No depth is left for the type that begins at the token, whatever it is.
+fn too_deep(token: Peeked) -> Step
+    ensures { λ r. ⌜ r ≡ Step.Stop 7 (token .start) ⌝ }
+{
+    Step::Stop {
+        number: 7,
+        place: token.start,
+    }
+}
+
 // A type but for its `!`, whose first token is given, with so much depth left: what follows its item types is noted, and its events are those
 // that the notes say.
 fn base_type(
@@ -149,11 +159,7 @@ fn base_type(
         };
     }
     if depth == 0 {
-        let t = parser::peek_token(text, items, token.next);
-        return Step::Stop {
-            number: 7,
-            place: t.start,
-        };
+        return too_deep(parser::peek_token(text, items, token.next));
     }
     let opened = values::open_with(13, token, events, out);
     match walk(text, items, token.next, depth - 1, follows, events, opened) {

@@ -23,6 +23,7 @@ use Rattle.types.proofs.read.end_type.Reads as end-type-reads
 use Rattle.types.proofs.read.note.Reads as note-reads
 use Rattle.types.proofs.read.noted.Reads as noted-reads
 use Rattle.types.proofs.read.open_noted.Reads as open-noted-reads
+use Rattle.types.proofs.read.too_deep.Reads as too-deep-reads
 use Rattle.values.proofs.is_name.Reads as is-name-reads
 use Rattle.values.proofs.open_with.Reads as open-with-reads
 use Rattle.types.proofs.read.+base_type+walk.{statement}
@@ -56,6 +57,8 @@ base-type-calls t = (
   put-named-reads.Learnt,
   peek-token-reads.Asked,
   peek-token-reads.Learnt,
+  too-deep-reads.Asked,
+  too-deep-reads.Learnt,
   open-with-reads.Asked,
   open-with-reads.Learnt,
   walk-below t,
@@ -83,8 +86,8 @@ walk-calls t = (
 base-type-is-name-requires : (t : ℕ) → base-type-lts.Need-is-name-requires (base-type-calls t) (base-type-at t) base-type.Post
 base-type-is-name-requires t c κs = search needs
 
-base-type-add-t15 : (t : ℕ) → base-type-lts.Need-add-t15 (base-type-calls t) (base-type-at t) base-type.Post
-base-type-add-t15 t c = omega (arith, narrow (c .before .before .before .before .before .before .before .args .text .now) (c .before .before .before .before .before .before .before .args .items .now) _ (c .before .before .before .before .before .before .before .args .token) (c .before .before .before .before .before .before .before .pre .1 .0) (c .before .before .before .before .before .before .before .pre .1 .1 .0 .front))
+base-type-add-t14 : (t : ℕ) → base-type-lts.Need-add-t14 (base-type-calls t) (base-type-at t) base-type.Post
+base-type-add-t14 t c = omega (arith, narrow (c .before .before .before .before .before .before .before .args .text .now) (c .before .before .before .before .before .before .before .args .items .now) _ (c .before .before .before .before .before .before .before .args .token) (c .before .before .before .before .before .before .before .pre .1 .0) (c .before .before .before .before .before .before .before .pre .1 .1 .0 .front))
 
 base-type-put-named-requires : (t : ℕ) → base-type-lts.Need-put-named-requires (base-type-calls t) (base-type-at t) base-type.Post
 base-type-put-named-requires t c κs =
@@ -106,8 +109,11 @@ base-type-returns-2 t c = λ at F. refused refl (base-other (c .before .before .
 base-type-peek-token-requires : (t : ℕ) → base-type-lts.Need-peek-token-requires (base-type-calls t) (base-type-at t) base-type.Post
 base-type-peek-token-requires t c κs = (c .before .before .before .before .before .before .before .before .before .pre .1 .0, c .before .before .before .before .before .before .before .before .before .pre .1 .1 .0 .front .inside (λ z. omega (arith, c .before .if2 .left)))
 
+base-type-too-deep-requires : (t : ℕ) → base-type-lts.Need-too-deep-requires (base-type-calls t) (base-type-at t) base-type.Post
+base-type-too-deep-requires t c κs = search needs
+
 base-type-returns-3 : (t : ℕ) → base-type-lts.Need-returns-3 (base-type-calls t) (base-type-at t) base-type.Post
-base-type-returns-3 t c = λ at F. refused refl (base-deep (c .before .before .before .before .before .before .before .before .before .before .args .text .now) at (c .before .before .before .before .before .before .before .before .before .before .args .token) F (c .before .before .before .before .before .before .before .before .before .before .args .depth) (c .before .if3 .taken) (c .before .before .if2 .left) (c .peek-token .result) (c .peek-token .ensures))
+base-type-returns-3 t c = λ at F. walked-as (sym (c .too-deep .ensures)) (refused refl (base-deep (c .before .before .before .before .before .before .before .before .before .before .before .args .text .now) at (c .before .before .before .before .before .before .before .before .before .before .before .args .token) F (c .before .before .before .before .before .before .before .before .before .before .before .args .depth) (c .before .before .if3 .taken) (c .before .before .before .if2 .left) (c .before .peek-token .result) (c .before .peek-token .ensures)))
 
 base-type-open-with-requires : (t : ℕ) → base-type-lts.Need-open-with-requires (base-type-calls t) (base-type-at t) base-type.Post
 base-type-open-with-requires t c κs = (omega (arith, c .before .before .if2 .left), narrow (c .before .before .before .before .before .before .before .before .before .before .args .text .now) (c .before .before .before .before .before .before .before .before .before .before .args .items .now) _ (c .before .before .before .before .before .before .before .before .before .before .args .token) (c .before .before .before .before .before .before .before .before .before .before .pre .1 .0) (c .before .before .before .before .before .before .before .before .before .before .pre .1 .1 .0 .front))
@@ -214,12 +220,13 @@ pub +base-type+walk-spec : {M : Type 1} → statement M
     (base-type-at t)
     base-type.Post
     (base-type-is-name-requires t)
-    (base-type-add-t15 t)
+    (base-type-add-t14 t)
     (base-type-put-named-requires t)
     (base-type-same-length t)
     (base-type-returns t)
     (base-type-returns-2 t)
     (base-type-peek-token-requires t)
+    (base-type-too-deep-requires t)
     (base-type-returns-3 t)
     (base-type-open-with-requires t)
     (base-type-sub-walk t)
