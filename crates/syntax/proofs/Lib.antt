@@ -21,3 +21,4 @@ pub mod OneReading
 pub mod Refusals
 pub mod TypeRefusals
 pub mod TextTokens
+pub mod Written
