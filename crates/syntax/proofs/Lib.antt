@@ -22,3 +22,4 @@ pub mod Refusals
 pub mod TypeRefusals
 pub mod TextTokens
 pub mod Written
+pub mod ReadBack
