@@ -22,4 +22,6 @@ pub mod Refusals
 pub mod TypeRefusals
 pub mod TextTokens
 pub mod Written
+pub mod Twins
+pub mod TwinSets
 pub mod ReadBack

@@ -1,11 +1,11 @@
 -- Print and read back: a tree's tokens, spelt and written with a space between, are read to the tree's events. Assumes nothing.
-use Prim.Native.Nat.{ℕ, _≤_}
+use Prim.Native.Nat.{ℕ, _+_, _≤_}
 use native.Mathlib.Omega.{arith}
 use mathlib.Core.Path.{_≡_, refl}
 use mathlib.Core.Bool.{Bool, true, false}
 use mathlib.Core.List.{List, [], _∷_}
 use lib.ListN.{length}
-use Rattle.base.specs.Item.{Item, item}
+use Rattle.base.specs.Item.{Item}
 use Rattle.base.specs.Run.{run as runOf}
 use Rattle.base.specs.Span.{span}
 use Rattle.tiles.specs.Tiles.{tiles}
@@ -14,18 +14,20 @@ use Rattle.rules.specs.Tokens.{blankBy, blank, wholeSize, integerSize, fraction
 use Rattle.rules.specs.Faults.{after, block, escaped, inText, quotes, scan, stringScan}
 use Rattle.rules.specs.StringAt.{codeOf, stringAt}
 use Rattle.rules.specs.Items.{itemAt}
-use Rattle.syntax.specs.Token.{eof, bang, dollar, parenL, parenR, dots, colon, at, bracketL, bracketR, braceL, braceR, plain, string, int, float, wordTrue, wordFalse, wordNull, wordOn, token}
+use Rattle.syntax.specs.Token.{eof, bang, dollar, parenL, parenR, dots, colon, at, bracketL, bracketR, braceL, braceR, plain, string, int, float, wordTrue, wordFalse, wordNull, wordOn, Token, token}
 use Rattle.syntax.specs.Words.{same, wordOf, tokenOf, ignored, significant, tokens}
-use Rattle.syntax.specs.Grammar.{Span, Value, intValue, listValue, noValue, aValue, valueTokens, valueEvents, valueDepth}
+use Rattle.syntax.specs.Grammar.{Value, intValue, listValue, noValue, aValue, valueTokens, valueEvents, valueDepth}
 use Rattle.syntax.specs.Types.{Ty, tyTokens, tyEvents, tyDepth}
 use Rattle.syntax.specs.Selections.{SelectionSet, setTokens, setEvents, setDepth}
-use Rattle.syntax.specs.Machine.{accepted, readValue, readConstant, readSelectionSet}
+use Rattle.syntax.specs.Machine.{Read, accepted, readValue, readConstant, readSelectionSet}
 use Rattle.syntax.specs.TypeReading.{readType}
-use Rattle.syntax.specs.Written.{Spelling, spelling, Spells, AllSpell, written, standing}
+use Rattle.syntax.specs.Written.{Spelling, spelling, AllSpell, SpellEach, codes, written, standing}
 use Rattle.syntax.proofs.ValueComplete.{value-complete, constant-complete}
 use Rattle.syntax.proofs.TypeComplete.{type-complete}
 use Rattle.syntax.proofs.SetComplete.{set-complete}
 use Rattle.syntax.proofs.Written.{written-tokens}
+use Rattle.syntax.proofs.Twins.{Like, value-twin, ty-twin}
+use Rattle.syntax.proofs.TwinSets.{set-twin}
 
 -- a value
 pub value-back : (d : ℕ) (x : Value false) (ws : List Spelling) → AllSpell ws → valueTokens x ≡ standing 0 ws → valueDepth x ≤ d
@@ -46,6 +48,71 @@ type-back d x ws h e l = rw (written-tokens ws h, ← e) (type-complete d x (tok
 pub set-back : (d : ℕ) (x : SelectionSet) (ws : List Spelling) → AllSpell ws → setTokens x ≡ standing 0 ws → setDepth x ≤ d
     → readSelectionSet d (tokens (written ws)) ≡ accepted (setEvents x)
 set-back d x ws h e l = rw (written-tokens ws h, ← e) (set-complete d x (token eof (length (written ws)) 0) [] l refl)
+
+-- ---- any tree, wherever its tokens stand
+
+-- the text written of the spellings ws of the tree x is read to the tree x where its tokens now stand: a tree whose tokens are those of the
+-- text, so no other is, and whose events are those of x but for their places
+pub record Back {A : Type 0} (tokensOf : A → List Token) (eventsOf : A → List Item) (reading : List Token → Read) (x : A) (ws : List Spelling) : Type 0 where
+  pub there : A
+  pub placed : tokensOf there ≡ standing 0 ws
+  pub alike : codes (eventsOf there) ≡ codes (eventsOf x)
+  pub reads : reading (tokens (written ws)) ≡ accepted (eventsOf there)
+
+all-spell : (ws : List Spelling) (ts : List Token) → SpellEach ws ts → AllSpell ws
+all-spell [] ts h = tt
+all-spell (w ∷ ws) [] h = absurd h
+all-spell (w ∷ ws) (t ∷ ts) h = (h .0, all-spell ws ts (h .2))
+
+like : (at : ℕ) (ws : List Spelling) (ts : List Token) → SpellEach ws ts → Like (standing at ws) ts
+like at [] [] h = tt
+like at [] (t ∷ ts) h = absurd h
+like at (w ∷ ws) [] h = absurd h
+like at (w ∷ ws) (t ∷ ts) h = (h .1, like (at + length (w .bytes) + 1) ws ts (h .2))
+
+-- a value
+pub any-value-back : (d : ℕ) (x : Value false) (ws : List Spelling) → SpellEach ws (valueTokens x) → valueDepth x ≤ d → Back valueTokens valueEvents (readValue d) x ws
+any-value-back d x ws h l =
+    let t = value-twin x (standing 0 ws) (like 0 ws (valueTokens x) h) in
+    record {
+      there = t .to;
+      placed = t .tokens;
+      alike = t .events .same;
+      reads = value-back d (t .to) ws (all-spell ws (valueTokens x) h) (t .tokens) (omega (arith, t .depth));
+    }
+
+-- a constant
+pub any-constant-back : (d : ℕ) (x : Value true) (ws : List Spelling) → SpellEach ws (valueTokens x) → valueDepth x ≤ d → Back valueTokens valueEvents (readConstant d) x ws
+any-constant-back d x ws h l =
+    let t = value-twin x (standing 0 ws) (like 0 ws (valueTokens x) h) in
+    record {
+      there = t .to;
+      placed = t .tokens;
+      alike = t .events .same;
+      reads = constant-back d (t .to) ws (all-spell ws (valueTokens x) h) (t .tokens) (omega (arith, t .depth));
+    }
+
+-- a type
+pub any-type-back : (d : ℕ) (x : Ty) (ws : List Spelling) → SpellEach ws (tyTokens x) → tyDepth x ≤ d → Back tyTokens tyEvents (readType d) x ws
+any-type-back d x ws h l =
+    let t = ty-twin x (standing 0 ws) (like 0 ws (tyTokens x) h) in
+    record {
+      there = t .to;
+      placed = t .tokens;
+      alike = t .events .same;
+      reads = type-back d (t .to) ws (all-spell ws (tyTokens x) h) (t .tokens) (omega (arith, t .depth));
+    }
+
+-- a selection set
+pub any-set-back : (d : ℕ) (x : SelectionSet) (ws : List Spelling) → SpellEach ws (setTokens x) → setDepth x ≤ d → Back setTokens setEvents (readSelectionSet d) x ws
+any-set-back d x ws h l =
+    let t = set-twin x (standing 0 ws) (like 0 ws (setTokens x) h) in
+    record {
+      there = t .to;
+      placed = t .tokens;
+      alike = t .events .same;
+      reads = set-back d (t .to) ws (all-spell ws (setTokens x) h) (t .tokens) (omega (arith, t .depth));
+    }
 
 -- ---- the premises can be met
 

@@ -1,8 +1,9 @@
 -- A text written from spelt tokens, with a space between. Assumes nothing: these are definitions.
 use Prim.Native.Nat.{ℕ, _+_, _≤_}
 use mathlib.Core.Path.{_≡_}
-use mathlib.Core.List.{List, [], _∷_, _++_}
+use mathlib.Core.List.{List, [], _∷_, _++_, map}
 use lib.ListN.{length}
+use Rattle.base.specs.Item.{Item}
 use Rattle.utf8.specs.Utf8.{Utf8}
 use Rattle.syntax.specs.Token.{eof, wordOn, Token, token}
 use Rattle.syntax.specs.Words.{tokens}
@@ -37,3 +38,14 @@ written (w ∷ v ∷ ws) = w .bytes ++ (32 ∷ written (v ∷ ws))
 abbrev pub standing : (at : ℕ) → List Spelling → List Token
 standing at [] = []
 standing at (w ∷ ws) = token (w .kind) at (length (w .bytes)) ∷ standing (at + length (w .bytes) + 1) ws
+
+-- the tokens ts, spelt one by one
+abbrev pub SpellEach : List Spelling → List Token → Type 0
+SpellEach [] [] = Unit {0}
+SpellEach [] (t ∷ ts) = ⊥
+SpellEach (w ∷ ws) [] = ⊥
+SpellEach (w ∷ ws) (t ∷ ts) = Spells w × (w .kind ≡ t .kind) × SpellEach ws ts
+
+-- events without their places
+abbrev pub codes : List Item → List ℕ
+codes es = map (λ (x : Item). x .code) es
