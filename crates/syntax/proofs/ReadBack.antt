@@ -2,7 +2,7 @@
 use Prim.Native.Nat.{ℕ, _+_, _≤_}
 use native.Mathlib.Omega.{arith}
 use mathlib.Core.Path.{_≡_, refl}
-use mathlib.Core.Bool.{Bool, true, false}
+use mathlib.Core.Bool.{true, false}
 use mathlib.Core.List.{List, [], _∷_}
 use lib.ListN.{length}
 use Rattle.base.specs.Item.{Item}
@@ -124,19 +124,23 @@ kinds-spelt : AllSpell kinds
 unfolding runOf span tiles digit nonzero letter nameStart nameContinue exponentMark sign afterNumber blankBy blank wholeSize integerSize fractionSize signedSize exponentSize numberBy numberToken punctuatorAt spreadAt stringToken tokenAt itemAt same wordOf tokenOf ignored significant lineEnd after block escaped inText quotes scan stringScan codeOf stringAt
 kinds-spelt = ((refl, omega arith), ((refl, omega arith), ((refl, omega arith), ((refl, omega arith), ((refl, omega arith), ((refl, omega arith), ((refl, omega arith), ((refl, omega arith), ((refl, omega arith), ((refl, omega arith), ((refl, omega arith), ((refl, omega arith), ((refl, omega arith), ((refl, omega arith), ((refl, omega arith), ((refl, omega arith), ((refl, omega arith), ((refl, omega arith), ((refl, omega arith), ((refl, omega arith), ((refl, omega arith), tt)))))))))))))))))))))
 
--- `[ 1 ]`
+-- `[ 1 ]`, by the tree that has these places, and by the tree of `[1]`
 abbrev list-words : List Spelling
 list-words = spelling bracketL (91 ∷ []) ∷ spelling int (49 ∷ []) ∷ spelling bracketR (93 ∷ []) ∷ []
-
-abbrev list-tree : Value false
-list-tree = listValue (record { start = 0; size = 1 }) (aValue (intValue (record { start = 2; size = 1 })) noValue) (record { start = 4; size = 1 })
-
-list-spelt : AllSpell list-words
-unfolding runOf span tiles digit nonzero letter nameStart nameContinue exponentMark sign afterNumber blankBy blank wholeSize integerSize fractionSize signedSize exponentSize numberBy numberToken punctuatorAt spreadAt stringToken tokenAt itemAt same wordOf tokenOf ignored significant
-list-spelt = ((refl, omega arith), ((refl, omega arith), ((refl, omega arith), tt)))
 
 list-written : written list-words ≡ 91 ∷ 32 ∷ 49 ∷ 32 ∷ 93 ∷ []
 list-written = refl
 
-list-back : readValue 1 (tokens (written list-words)) ≡ accepted (valueEvents list-tree)
-list-back = value-back 1 list-tree list-words list-spelt refl (omega arith)
+-- `[`, `1` and `]` at these places
+abbrev list-at : (l i r : ℕ) → Value false
+list-at l i r = listValue (record { start = l; size = 1 }) (aValue (intValue (record { start = i; size = 1 })) noValue) (record { start = r; size = 1 })
+
+list-spelt : SpellEach list-words (valueTokens (list-at 0 1 2))
+unfolding runOf span tiles digit nonzero letter nameStart nameContinue exponentMark sign afterNumber blankBy blank wholeSize integerSize fractionSize signedSize exponentSize numberBy numberToken punctuatorAt spreadAt stringToken tokenAt itemAt same wordOf tokenOf ignored significant
+list-spelt = ((refl, omega arith), refl, ((refl, omega arith), refl, ((refl, omega arith), refl, tt)))
+
+list-back : readValue 1 (tokens (written list-words)) ≡ accepted (valueEvents (list-at 0 2 4))
+list-back = value-back 1 (list-at 0 2 4) list-words (all-spell list-words (valueTokens (list-at 0 1 2)) list-spelt) refl (omega arith)
+
+list-any-back : Back valueTokens valueEvents (readValue 1) (list-at 0 1 2) list-words
+list-any-back = any-value-back 1 (list-at 0 1 2) list-words list-spelt (omega arith)

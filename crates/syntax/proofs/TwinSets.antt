@@ -1,11 +1,11 @@
 -- A selection set's tokens may stand elsewhere, too. Assumes nothing.
-use Prim.Native.Nat.{ℕ, suc}
-use mathlib.Core.Path.{_≡_, refl, sym, ap, ap₂, _∙_}
+use Prim.Native.Nat.{suc}
+use mathlib.Core.Path.{refl, sym, ap, ap₂, _∙_}
 use mathlib.Core.List.{List, [], _∷_, _++_}
 use Rattle.syntax.specs.Token.{parenL, parenR, dots, colon, at, braceL, braceR, wordOn, Token}
-use Rattle.syntax.specs.Grammar.{of, Name, nameToken, kindOf, fragmentKind, valueTokens, valueDepth}
+use Rattle.syntax.specs.Grammar.{of, nameToken, kindOf, fragmentKind, valueTokens, valueDepth}
 use Rattle.syntax.specs.Selections.{Argument, Arguments, oneArgument, moreArguments, OptArguments, noArguments, arguments, Directive, Directives, oneDirective, moreDirectives, OptDirectives, noDirectives, directives, OptAlias, noAlias, alias, OptCondition, noCondition, condition, SelectionSet, selectionSet, Selections, oneSelection, moreSelections, Selection, field, fragmentSpread, inlineFragment, OptSelectionSet, noSelectionSet, someSelectionSet, argumentTokens, argumentsTokens, optArgumentsTokens, directiveTokens, directivesTokens, optDirectivesTokens, aliasTokens, conditionTokens, setTokens, selectionTokens, selectionsTokens, optSetTokens, argumentEvents, argumentsEvents, optArgumentsEvents, directiveEvents, directivesEvents, optDirectivesEvents, aliasEvents, conditionEvents, setEvents, selectionEvents, selectionsEvents, optSetEvents, argumentsDepth, optArgumentsDepth, directivesDepth, optDirectivesDepth, setDepth, selectionDepth, selectionsDepth, optSetDepth}
-use Rattle.syntax.proofs.Twins.{Like, Alike, told, next, then, Twin, Split, split, Opened, opened, Lone, lone, Closed, closed, none-left, value-twin}
+use Rattle.syntax.proofs.Twins.{Like, told, next, then, Twin, split, opened, lone, closed, none-left, value-twin}
 
 -- ---- arguments
 

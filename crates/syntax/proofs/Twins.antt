@@ -1,14 +1,13 @@
 -- A tree's tokens may stand elsewhere: to tokens of the same kinds there is a tree that has them, as deep, with events of the same codes.
 -- Assumes nothing.
-use Prim.Native.Nat.{ℕ, suc, max, _+_}
-use native.Mathlib.Omega.{arith}
+use Prim.Native.Nat.{ℕ, suc}
 use mathlib.Core.Path.{_≡_, refl, sym, ap, ap₂, _∙_}
-use mathlib.Core.Bool.{Bool, true, false}
-use mathlib.Core.List.{List, [], _∷_, _++_, map, map-append}
+use mathlib.Core.Bool.{Bool}
+use mathlib.Core.List.{List, [], _∷_, _++_, map-append}
 use Rattle.base.specs.Item.{Item}
-use Rattle.syntax.specs.Token.{dollar, parenL, parenR, dots, colon, at, bang, bracketL, bracketR, braceL, braceR, string, int, float, wordTrue, wordFalse, wordNull, wordOn, Token, token}
+use Rattle.syntax.specs.Token.{dollar, colon, at, bang, bracketL, bracketR, braceL, braceR, string, int, float, wordTrue, wordFalse, wordNull, Token, token}
 use Rattle.syntax.specs.Types.{Ty, nullable, nonNull, Base, namedType, listType, tyTokens, baseTokens, tyEvents, baseEvents, tyDepth, baseDepth}
-use Rattle.syntax.specs.Grammar.{Span, of, Name, nameToken, kindOf, enumKind, fragmentKind, node, Value, variable, intValue, floatValue, stringValue, trueValue, falseValue, nullValue, enumValue, listValue, objectValue, Values, noValue, aValue, Fields, noField, aField, valueTokens, valuesTokens, fieldsTokens, valueEvents, valuesEvents, fieldsEvents, valueDepth, valuesDepth, fieldsDepth}
+use Rattle.syntax.specs.Grammar.{Span, of, kindOf, enumKind, Value, variable, intValue, floatValue, stringValue, trueValue, falseValue, nullValue, enumValue, listValue, objectValue, Values, noValue, aValue, Fields, noField, aField, valueTokens, valuesTokens, fieldsTokens, valueEvents, valuesEvents, fieldsEvents, valueDepth, valuesDepth, fieldsDepth}
 use Rattle.syntax.specs.Written.{codes}
 
 -- tokens of the same kinds, one by one
@@ -29,7 +28,7 @@ pub next : {x y : Item} {es fs : List Item} → x .code ≡ y .code → Alike es
 next e a = told (ap₂ (λ (c : ℕ) (cs : List ℕ). c ∷ cs) e (a .same))
 
 pub then : {a b es fs : List Item} → Alike a b → Alike es fs → Alike (a ++ es) (b ++ fs)
-then p q = told (rw (map-append, map-append, p .same, q .same))
+then {a} {b} {es} {fs} p q = told (map-append (λ (x : Item). x .code) a es ∙ ap₂ (λ (x y : List ℕ). x ++ y) (p .same) (q .same) ∙ sym (map-append (λ (x : Item). x .code) b fs))
 
 -- a tree like x with the tokens us
 pub record Twin {A : Type 0} (tokensOf : A → List Token) (eventsOf : A → List Item) (depthOf : A → ℕ) (x : A) (us : List Token) : Type 0 where

@@ -1,16 +1,15 @@
 -- Spelt tokens, written with a space between, are read back as these tokens. Assumes nothing.
-use Prim.Native.Nat.{ℕ, zero, suc, pred, _+_, _≤_, _<_}
+use Prim.Native.Nat.{ℕ, _+_, _≤_, _<_}
 use native.Mathlib.Omega.{arith}
-use native.Mathlib.Nat.{add-zero, zero-add}
-use mathlib.Core.Path.{_≡_, refl, sym, ap, ap₂, _∙_, subst}
+use mathlib.Core.Path.{_≡_, refl, sym, ap, ap₂, _∙_}
 use mathlib.Core.Bool.{Bool, true, false}
-use mathlib.Core.List.{List, [], _∷_, _++_, append-nil, append-assoc}
+use mathlib.Core.List.{List, [], _∷_, _++_, append-nil}
 use lib.Dec.{eqb}
 use lib.ListN.{length, take, drop, length-append}
 use lib.Seq.{drop-append-seam, take-append-seam, take-length, drop-length, drop-drop}
-use borrow.Author.Tests.{eqb-true, eq-eqb, ne-eqb}
+use borrow.Author.Tests.{eqb-true, ne-eqb}
 use Rattle.base.specs.Text.{pick}
-use Rattle.base.specs.Item.{Lexeme, lexeme, Item, item, placed}
+use Rattle.base.specs.Item.{lexeme, Item, item, placed}
 use Rattle.base.proofs.Tests.{by, apart}
 use Rattle.utf8.specs.Utf8.{Utf8, one}
 use Rattle.utf8.proofs.Split.{append-utf8}
