@@ -26,7 +26,7 @@ use Rattle.syntax.proofs.ValueComplete.{value-complete, constant-comple
 use Rattle.syntax.proofs.TypeComplete.{type-complete}
 use Rattle.syntax.proofs.SetComplete.{set-complete}
 use Rattle.syntax.proofs.Written.{written-tokens}
-use Rattle.syntax.proofs.Twins.{Like, value-twin, ty-twin}
+use Rattle.syntax.proofs.Twins.{Like, Twin, value-twin, ty-twin}
 use Rattle.syntax.proofs.TwinSets.{set-twin}
 
 -- a value
@@ -51,8 +51,8 @@ set-back d x ws h e l = rw (written-tokens ws h, ← e) (set-complete d x (token
 
 -- ---- any tree, wherever its tokens stand
 
--- the text written of the spellings ws of the tree x is read to the tree x where its tokens now stand: a tree whose tokens are those of the
--- text, so no other is, and whose events are those of x but for their places
+-- the text of the spellings ws of the tree x is read to the events of x where its tokens now stand: of a tree that has the text's tokens, as
+-- no other tree has, and the events of x but for their places
 pub record Back {A : Type 0} (tokensOf : A → List Token) (eventsOf : A → List Item) (reading : List Token → Read) (x : A) (ws : List Spelling) : Type 0 where
   pub there : A
   pub placed : tokensOf there ≡ standing 0 ws
@@ -70,55 +70,44 @@ like at [] (t ∷ ts) h = absurd h
 like at (w ∷ ws) [] h = absurd h
 like at (w ∷ ws) (t ∷ ts) h = (h .1, like (at + length (w .bytes) + 1) ws ts (h .2))
 
+by-twin : {A : Type 0} {tokensOf : A → List Token} {eventsOf : A → List Item} {depthOf : A → ℕ} {reading : List Token → Read} {x : A} {ws : List Spelling}
+    (t : Twin tokensOf eventsOf depthOf x (standing 0 ws)) → reading (tokens (written ws)) ≡ accepted (eventsOf (t .to)) → Back tokensOf eventsOf reading x ws
+by-twin t e = record { there = t .to; placed = t .tokens; alike = t .events .same; reads = e }
+
 -- a value
 pub any-value-back : (d : ℕ) (x : Value false) (ws : List Spelling) → SpellEach ws (valueTokens x) → valueDepth x ≤ d → Back valueTokens valueEvents (readValue d) x ws
 any-value-back d x ws h l =
     let t = value-twin x (standing 0 ws) (like 0 ws (valueTokens x) h) in
-    record {
-      there = t .to;
-      placed = t .tokens;
-      alike = t .events .same;
-      reads = value-back d (t .to) ws (all-spell ws (valueTokens x) h) (t .tokens) (omega (arith, t .depth));
-    }
+    by-twin t (value-back d (t .to) ws (all-spell ws (valueTokens x) h) (t .tokens) (omega (arith, t .depth)))
 
 -- a constant
 pub any-constant-back : (d : ℕ) (x : Value true) (ws : List Spelling) → SpellEach ws (valueTokens x) → valueDepth x ≤ d → Back valueTokens valueEvents (readConstant d) x ws
 any-constant-back d x ws h l =
     let t = value-twin x (standing 0 ws) (like 0 ws (valueTokens x) h) in
-    record {
-      there = t .to;
-      placed = t .tokens;
-      alike = t .events .same;
-      reads = constant-back d (t .to) ws (all-spell ws (valueTokens x) h) (t .tokens) (omega (arith, t .depth));
-    }
+    by-twin t (constant-back d (t .to) ws (all-spell ws (valueTokens x) h) (t .tokens) (omega (arith, t .depth)))
 
 -- a type
 pub any-type-back : (d : ℕ) (x : Ty) (ws : List Spelling) → SpellEach ws (tyTokens x) → tyDepth x ≤ d → Back tyTokens tyEvents (readType d) x ws
 any-type-back d x ws h l =
     let t = ty-twin x (standing 0 ws) (like 0 ws (tyTokens x) h) in
-    record {
-      there = t .to;
-      placed = t .tokens;
-      alike = t .events .same;
-      reads = type-back d (t .to) ws (all-spell ws (tyTokens x) h) (t .tokens) (omega (arith, t .depth));
-    }
+    by-twin t (type-back d (t .to) ws (all-spell ws (tyTokens x) h) (t .tokens) (omega (arith, t .depth)))
 
 -- a selection set
 pub any-set-back : (d : ℕ) (x : SelectionSet) (ws : List Spelling) → SpellEach ws (setTokens x) → setDepth x ≤ d → Back setTokens setEvents (readSelectionSet d) x ws
 any-set-back d x ws h l =
     let t = set-twin x (standing 0 ws) (like 0 ws (setTokens x) h) in
-    record {
-      there = t .to;
-      placed = t .tokens;
-      alike = t .events .same;
-      reads = set-back d (t .to) ws (all-spell ws (setTokens x) h) (t .tokens) (omega (arith, t .depth));
-    }
+    by-twin t (set-back d (t .to) ws (all-spell ws (setTokens x) h) (t .tokens) (omega (arith, t .depth)))
 
 -- ---- the premises can be met
 
 -- each kind of token that a tree has is spelt by some bytes
 abbrev kinds : List Spelling
-kinds = spelling bang (33 ∷ []) ∷ spelling dollar (36 ∷ []) ∷ spelling parenL (40 ∷ []) ∷ spelling parenR (41 ∷ []) ∷ spelling dots (46 ∷ 46 ∷ 46 ∷ []) ∷ spelling colon (58 ∷ []) ∷ spelling at (64 ∷ []) ∷ spelling bracketL (91 ∷ []) ∷ spelling bracketR (93 ∷ []) ∷ spelling braceL (123 ∷ []) ∷ spelling braceR (125 ∷ []) ∷ spelling plain (97 ∷ 49 ∷ []) ∷ spelling string (34 ∷ 34 ∷ []) ∷ spelling string (34 ∷ 97 ∷ 34 ∷ []) ∷ spelling string (34 ∷ 34 ∷ 34 ∷ 97 ∷ 34 ∷ 34 ∷ 34 ∷ []) ∷ spelling int (45 ∷ 49 ∷ 48 ∷ []) ∷ spelling float (49 ∷ 46 ∷ 53 ∷ 101 ∷ 43 ∷ 51 ∷ []) ∷ spelling wordTrue (116 ∷ 114 ∷ 117 ∷ 101 ∷ []) ∷ spelling wordFalse (102 ∷ 97 ∷ 108 ∷ 115 ∷ 101 ∷ []) ∷ spelling wordNull (110 ∷ 117 ∷ 108 ∷ 108 ∷ []) ∷ spelling wordOn (111 ∷ 110 ∷ []) ∷ []
+kinds =
+    spelling bang (33 ∷ []) ∷ spelling dollar (36 ∷ []) ∷ spelling parenL (40 ∷ []) ∷ spelling parenR (41 ∷ []) ∷ spelling dots (46 ∷ 46 ∷ 46 ∷ [])
+    ∷ spelling colon (58 ∷ []) ∷ spelling at (64 ∷ []) ∷ spelling bracketL (91 ∷ []) ∷ spelling bracketR (93 ∷ []) ∷ spelling braceL (123 ∷ []) ∷ spelling braceR (125 ∷ [])
+    ∷ spelling plain (97 ∷ 49 ∷ []) ∷ spelling string (34 ∷ 34 ∷ []) ∷ spelling string (34 ∷ 97 ∷ 34 ∷ []) ∷ spelling string (34 ∷ 34 ∷ 34 ∷ 97 ∷ 34 ∷ 34 ∷ 34 ∷ [])
+    ∷ spelling int (45 ∷ 49 ∷ 48 ∷ []) ∷ spelling float (49 ∷ 46 ∷ 53 ∷ 101 ∷ 43 ∷ 51 ∷ []) ∷ spelling wordTrue (116 ∷ 114 ∷ 117 ∷ 101 ∷ [])
+    ∷ spelling wordFalse (102 ∷ 97 ∷ 108 ∷ 115 ∷ 101 ∷ []) ∷ spelling wordNull (110 ∷ 117 ∷ 108 ∷ 108 ∷ []) ∷ spelling wordOn (111 ∷ 110 ∷ []) ∷ []
 
 kinds-spelt : AllSpell kinds
 unfolding runOf span tiles digit nonzero letter nameStart nameContinue exponentMark sign afterNumber blankBy blank wholeSize integerSize fractionSize signedSize exponentSize numberBy numberToken punctuatorAt spreadAt stringToken tokenAt itemAt same wordOf tokenOf ignored significant lineEnd after block escaped inText quotes scan stringScan codeOf stringAt

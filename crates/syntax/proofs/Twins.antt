@@ -5,7 +5,7 @@ use mathlib.Core.Path.{_≡_, refl, sym, ap, ap₂, _∙_}
 use mathlib.Core.Bool.{Bool}
 use mathlib.Core.List.{List, [], _∷_, _++_, map-append}
 use Rattle.base.specs.Item.{Item}
-use Rattle.syntax.specs.Token.{dollar, colon, at, bang, bracketL, bracketR, braceL, braceR, string, int, float, wordTrue, wordFalse, wordNull, Token, token}
+use Rattle.syntax.specs.Token.{dollar, colon, bang, bracketL, bracketR, braceL, braceR, string, int, float, wordTrue, wordFalse, wordNull, Token, token}
 use Rattle.syntax.specs.Types.{Ty, nullable, nonNull, Base, namedType, listType, tyTokens, baseTokens, tyEvents, baseEvents, tyDepth, baseDepth}
 use Rattle.syntax.specs.Grammar.{Span, of, kindOf, enumKind, Value, variable, intValue, floatValue, stringValue, trueValue, falseValue, nullValue, enumValue, listValue, objectValue, Values, noValue, aValue, Fields, noField, aField, valueTokens, valuesTokens, fieldsTokens, valueEvents, valuesEvents, fieldsEvents, valueDepth, valuesDepth, fieldsDepth}
 use Rattle.syntax.specs.Written.{codes}

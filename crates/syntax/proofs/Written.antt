@@ -101,6 +101,7 @@ not-empty : (t u : Token) → tokens [] ≡ t ∷ u ∷ [] → ⊥
 unfolding significant tiles ignored
 not-empty t u e = let z : _≡_ {A = ℕ} 1 2 = ap length e in omega arith
 
+-- what spells a token of kind k
 pub filled : (k : ℕ) (t : List ℕ) → tokens t ≡ token k 0 (length t) ∷ token eof (length t) 0 ∷ [] → k ≤ wordOn → Filled k t
 unfolding significant tokenOf ignored
 filled k [] e l = absurd (not-empty _ _ e)
@@ -109,11 +110,15 @@ filled k (b ∷ s) e l =
     let x = itemAt t in
     let p : 0 < x .size = item-pos t (omega arith) in
     let xs = tiles itemAt 0 (0 + x .size) (drop (x .size) t) in
-    let f : pick (ignored (x .code)) (significant t (xs ++ (eofItem (0 + length t) ∷ []))) (tokenOf t (placed 0 x) ∷ significant t (xs ++ (eofItem (0 + length t) ∷ []))) ≡ token k 0 (length t) ∷ token eof (length t) 0 ∷ [] = rw (tiles-step itemAt 0 t (omega arith) p) at e in
+    let ts = significant t (xs ++ (eofItem (0 + length t) ∷ [])) in
+    let us = token k 0 (length t) ∷ token eof (length t) 0 ∷ [] in
+    let f : pick (ignored (x .code)) ts (tokenOf t (placed 0 x) ∷ ts) ≡ us = rw (tiles-step itemAt 0 t (omega arith) p) at e in
     by (ignored (x .code))
-    (λ i. absurd (late t (0 + x .size) _ k (length t) xs (eofItem (0 + length t)) _ (omega arith) (covers itemAt item-pos item-le (0 + x .size) (drop (x .size) t)) (omega arith) (rw i at f)))
     (λ i.
-    let g : tokenOf t (placed 0 x) ∷ significant t (xs ++ (eofItem (0 + length t) ∷ [])) ≡ token k 0 (length t) ∷ token eof (length t) 0 ∷ [] = rw i at f in
+    let c = covers itemAt item-pos item-le (0 + x .size) (drop (x .size) t) in
+    absurd (late t (0 + x .size) _ k (length t) xs (eofItem (0 + length t)) _ (omega arith) c (omega arith) (rw i at f)))
+    (λ i.
+    let g : tokenOf t (placed 0 x) ∷ ts ≡ us = rw i at f in
     let z : x .size ≡ length t = ap sizeOfFirst g in
     let c : pick (eqb (x .code) plain) (wordOf (take (x .size) t)) (x .code) ≡ k = ap kindOfFirst g in
     let m = no-error (x .code) k _ (item-code (item-sound b s)) c l in
@@ -210,7 +215,9 @@ written-utf8 [] u = Utf8.none
 written-utf8 (w ∷ []) u = u .0
 written-utf8 (w ∷ v ∷ ws) u = append-utf8 (32 ∷ written (v ∷ ws)) (u .0) (one refl (written-utf8 (v ∷ ws) (u .1)))
 
--- a word's kind is the greatest at most
+-- ---- which bytes spell
+
+-- a word's kind is 25 at most
 word-most : (w : List ℕ) → wordOf w ≤ wordOn
 unfolding wordOf
 word-most w =
@@ -223,7 +230,7 @@ word-most w =
     by-words false false false true = omega arith
     by-words false false false false = omega arith
 
--- what spells a token: any text that the rule of a significant token fills
+-- the other way round: any text that the rule of a significant token fills spells that token
 pub fills : {k : ℕ} (t : List ℕ) → 0 < length t → Rule k t (length t) → ignored k ≡ false → Spells (spelling (pick (eqb k plain) (wordOf t) k) t)
 unfolding significant tokenOf ignored
 fills {k} t p h i =

@@ -20,10 +20,12 @@ spelling k b = record { kind = k; bytes = b }
 abbrev pub Spells : Spelling → Type 0
 Spells w = (tokens (w .bytes) ≡ token (w .kind) 0 (length (w .bytes)) ∷ token eof (length (w .bytes)) 0 ∷ []) × (w .kind ≤ wordOn)
 
+-- each does
 abbrev pub AllSpell : List Spelling → Type 0
 AllSpell [] = Unit {0}
 AllSpell (w ∷ ws) = Spells w × AllSpell ws
 
+-- the bytes of each are UTF-8
 abbrev pub AllUtf8 : List Spelling → Type 0
 AllUtf8 [] = Unit {0}
 AllUtf8 (w ∷ ws) = Utf8 (w .bytes) × AllUtf8 ws
@@ -39,7 +41,7 @@ abbrev pub standing : (at : ℕ) → List Spelling → List Token
 standing at [] = []
 standing at (w ∷ ws) = token (w .kind) at (length (w .bytes)) ∷ standing (at + length (w .bytes) + 1) ws
 
--- the tokens ts, spelt one by one
+-- the tokens ts, spelt one by one, wherever they stand
 abbrev pub SpellEach : List Spelling → List Token → Type 0
 SpellEach [] [] = Unit {0}
 SpellEach [] (t ∷ ts) = ⊥
