@@ -21,3 +21,7 @@ pub mod OneReading
 pub mod Refusals
 pub mod TypeRefusals
 pub mod TextTokens
+pub mod Written
+pub mod Twins
+pub mod TwinSets
+pub mod ReadBack

@@ -55,7 +55,7 @@ no-eof t (x ∷ xs) h = by-ignored (ignored (x .code)) (no-eof t xs (h .1))
     by-ignored true n = n
     by-ignored false n = let k = token-kind t x (h .0) in (ne-eqb (tokenOf t x .kind) eof (λ e. omega arith), n)
 
-significant-append : (t : List ℕ) (xs ys : List Item) → significant t (xs ++ ys) ≡ significant t xs ++ significant t ys
+pub significant-append : (t : List ℕ) (xs ys : List Item) → significant t (xs ++ ys) ≡ significant t xs ++ significant t ys
 unfolding significant
 significant-append t [] ys = refl
 significant-append t (x ∷ xs) ys = by-ignored (ignored (x .code)) (significant-append t xs ys)

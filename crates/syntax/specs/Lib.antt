@@ -7,3 +7,4 @@ pub mod Types
 pub mod Selections
 pub mod Machine
 pub mod TypeReading
+pub mod Written
