@@ -1,5 +1,5 @@
 -- The entries accept just the sentences, and the event tape holds the one tree's events. Assumes nothing.
-use Prim.Native.Nat.{ℕ, _+_, _≤_, _<_, min}
+use Prim.Native.Nat.{ℕ, suc, _≤_, _<_, min}
 use mathlib.Core.Path.{_≡_, refl, sym, ap, _∙_}
 use mathlib.Core.Bool.{Bool, true, false}
 use mathlib.Core.List.{List, [], _∷_, _++_}
@@ -12,7 +12,7 @@ use Rattle.base.specs.Item.{Item}
 use Rattle.tape.specs.Entry.{room, entries, over}
 use Rattle.rules.specs.Items.{items as itemsOf}
 use Rattle.reader.specs.declared.Answer.{Answer}
-use Rattle.reader.specs.Answers.{answer, answerOf, tapeOf}
+use Rattle.reader.specs.Answers.{answer, longest, answerOf, tapeOf}
 use Rattle.reader.proofs.Laws.{done-when, row-0}
 use Rattle.syntax.specs.Token.{eof, Token, token}
 use Rattle.syntax.specs.Words.{tokens}
@@ -27,10 +27,12 @@ use Rattle.syntax.proofs.TypeSound.{type-exact}
 use Rattle.syntax.proofs.SetSound.{set-exact}
 use Rattle.syntax.proofs.Refusals.{refusal-number, value-refusal, set-refusal}
 use Rattle.syntax.proofs.TypeRefusals.{readType-refusal}
-use Rattle.syntax.proofs.OneReading.{value-one, ty-one, set-one}
+use Rattle.syntax.specs.Written.{Spelling, AllSpell, AllUtf8, written, standing}
+use Rattle.syntax.proofs.Written.{written-tokens, written-clean, written-utf8}
+use Rattle.syntax.proofs.OneReading.{NoError, value-one, ty-one, set-one}
 use Rattle.grammar.specs.declared.Entry.{Entry}
 use Rattle.grammar.specs.declared.Entry.the-variants.{Value, Constant, Ty, SelectionSet}
-use Rattle.grammar.specs.Answers.{readOf, deepest, firstError, readAnswer, itemsAnswer, countedEvents, grammarAnswer, grammarItems, grammarEvents}
+use Rattle.grammar.specs.Answers.{readOf, deepest, isError, firstError, readAnswer, itemsAnswer, countedEvents, grammarAnswer, grammarItems, grammarEvents}
 use Rattle.grammar.specs.Trees.{Tree, treeTokens, treeEvents, treeDepth, Clear, Sentence}
 use Rattle.grammar.proofs.Rows.{parsed}
 
@@ -135,3 +137,27 @@ module _ (e : Entry) (t : List ℕ) (limit depth : ℕ) (items events : List ℕ
       let h = complete e depth t x s in
       let b = lt-leb (length (treeEvents e x)) (room events) l in
       (r .0 ∙ rw (h, b), r .1, r .2 ∙ rw (h, b))
+
+-- ---- print and read back
+
+-- a text of tokens that are spelt has no error item
+clean-faultless : (xs : List Item) → NoError xs → firstError xs ≡ length xs
+unfolding firstError isError
+clean-faultless [] h = refl
+clean-faultless (x ∷ xs) h = rw (lt-leb 64 (x .code) (let c = h .0 in omega arith)) (ap suc (clean-faultless xs (h .1)))
+
+-- "the tokens of any tree within the limits, written out with a space between, are read to that tree's events"
+pub written-back : (e : Entry) (x : Tree e) (ws : List Spelling) (limit depth : ℕ) (items events : List ℕ)
+    → AllSpell ws → AllUtf8 ws → treeTokens e x ≡ standing 0 ws → treeDepth e x ≤ depth → depth ≤ deepest
+    → length (written ws) ≤ longest → length (itemsOf (written ws)) ≤ min limit (room items) → length (treeEvents e x) ≤ room events
+    → (grammarAnswer e (written ws) limit depth items events ≡ answer 0 (length (written ws)) (length (itemsOf (written ws))) (length (treeEvents e x)))
+    × (grammarItems (written ws) limit depth items ≡ over items (entries (itemsOf (written ws))))
+    × (grammarEvents e (written ws) limit depth items events ≡ over events (entries (treeEvents e x)))
+written-back e x ws limit depth items events s u q d a l m r =
+    sentence-done e (written ws) limit depth items events (record {
+      utf8 = written-utf8 ws u;
+      short = l;
+      admitted = m;
+      faultless = clean-faultless (itemsOf (written ws)) (written-clean ws s);
+      allowed = a;
+    }) x (record { deep = d; spells = rw q (written-tokens ws s) }) r
