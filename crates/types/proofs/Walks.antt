@@ -1,5 +1,5 @@
 -- Types but for their `!`, what their notes say, and walks put together. Assumes nothing.
-use Prim.Native.Nat.{ℕ, zero, suc, _+_, _-_, _<_}
+use Prim.Native.Nat.{ℕ, zero, suc, _-_, _<_}
 use native.Mathlib.Numerals.{sub-one}
 use native.Mathlib.Omega.{arith}
 use mathlib.Core.Path.{_≡_, refl, sym, ap, _∙_, subst}
@@ -20,7 +20,7 @@ use Rattle.parser.specs.View.{rest, tokenOf, Front}
 use Rattle.parser.specs.Events.{Puts}
 use Rattle.parser.proofs.Events.{puts-then}
 use Rattle.types.specs.Promise.{TypeOutcome, given, withheld}
-use Rattle.types.specs.Walk.{listed, baseAt, kindFirst, Follows, Below, Noted, Marked, Walked, walked, refused, Closed, closed, unclosed, Ended, banged, bare}
+use Rattle.types.specs.Walk.{listed, baseAt, Below, Noted, Marked, Walked, walked, refused, Closed, closed, unclosed, Ended, banged, bare}
 
 -- what was read from s on, and its `!`
 abbrev more : (s : ℕ) → TypeRead → TypeRead

@@ -1,8 +1,5 @@
 -- `types::read::note` meets its contract. Assumes nothing.
-use Prim.Native.Nat.{_<_}
-use mathlib.Core.Path.{_≡_}
 use native.Mathlib.Omega.{arith}
-use lib.ListN.{length}
 use lib.Seq.{getD-set-same, getD-set-other}
 use borrow.Author.Needs.{needs}
 use Rattle.types.proofs.read.note.Statement.{statement}
