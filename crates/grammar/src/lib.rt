@@ -27,9 +27,9 @@ fn begin(entry: Entry, text: &[u8], items: &[u8], depth: usize, events: &mut [u8
     ensures { λ r. ⌜ Begins (readOf entry depth (tokens (now (text .entry)))) (now (text .entry)) (now (events .entry)) (now (events .exit)) r ⌝ }
 {
     match entry {
-        Entry::Value => values::value(text, items, false, 0, depth, events, 0),
-        Entry::Constant => values::value(text, items, true, 0, depth, events, 0),
-        Entry::Ty => types::ty(text, items, 0, depth, events, 0),
+        Entry::Value => values::value::value(text, items, false, 0, depth, events, 0),
+        Entry::Constant => values::value::value(text, items, true, 0, depth, events, 0),
+        Entry::Ty => types::ty::ty(text, items, 0, depth, events, 0),
         Entry::SelectionSet => {
             let start = Step::Done {
                 next: 0,

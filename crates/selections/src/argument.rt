@@ -53,10 +53,10 @@ fn arguments(
     ensures { λ r. ⌜ ((at l : ℕ) → Front (now (text .entry)) at token → Outcome false (now (text .entry)) (optArguments depth ∷ []) [] l at (now (events .entry)) out (now (events .exit)) r) ⌝ }
 {
     let start = token.start;
-    let mut o = values::open_with(18, token, events, out);
+    let mut o = values::token::open_with(18, token, events, out);
     let mut i = token.next;
     let first = parser::peek_token(text, items, i);
-    if !values::is_name(first.kind) {
+    if !values::name::is_name(first.kind) {
         return Step::Stop {
             number: 9,
             place: first.start,
@@ -69,10 +69,10 @@ fn arguments(
             return Step::Done {
                 next: t.next,
                 end: t.start + t.size,
-                out: values::close_with(18, start, t, events, o),
+                out: values::token::close_with(18, start, t, events, o),
             };
         }
-        if !values::is_name(kind) {
+        if !values::name::is_name(kind) {
             return Step::Stop {
                 number: 9,
                 place: t.start,

@@ -30,7 +30,7 @@ pub fn directive(
     let opened = Step::Done {
         next: token.next,
         end: token.start + token.size,
-        out: values::open_with(21, token, events, out),
+        out: values::token::open_with(21, token, events, out),
     };
     let named = then_name(text, items, opened, events);
     let given = then_arguments(text, items, named, depth, events);

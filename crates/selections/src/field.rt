@@ -28,7 +28,7 @@ fn alias(token: Peeked, colon: Peeked, events: &mut [u8], out: usize) -> usize
 {
     let opened = parser::put_open(events, out, 17, token.start);
     let named = parser::put_leaf(events, opened, 1, token);
-    values::close_with(17, token.start, colon, events, named)
+    values::token::close_with(17, token.start, colon, events, named)
 }
 
 // The field opens, whose first name is the token: an alias if a `:` follows, and then the name; else the name.

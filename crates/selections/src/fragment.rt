@@ -51,7 +51,7 @@ pub fn fragment_spread(
     requires { ⌜ Front (now text) (dots .next) token ⌝ }
     ensures { λ r. ⌜ Goes false (now (text .entry)) (spread depth (tokenOf dots) ∷ []) [] (now (events .entry)) (now (events .exit)) (Done (dots .next) (dots .start + dots .size) out) r ⌝ }
 {
-    let opened = values::open_with(22, dots, events, out);
+    let opened = values::token::open_with(22, dots, events, out);
     let named = Step::Done {
         next: token.next,
         end: token.start + token.size,
@@ -68,8 +68,8 @@ fn type_condition(text: &[u8], items: &[u8], token: Peeked, events: &mut [u8], o
     requires { ⌜ Seen (now text) token ⌝ }
     ensures { λ r. ⌜ ((c : Bool) → Begun c (now (text .entry)) (opens 25 (token .start) ∷ tokenEvent (tokenOf token) ∷ []) (namedType ∷ close 25 (token .start) ∷ []) [] (token .next) (token .start + token .size) (now (events .entry)) out (now (events .exit)) r) ⌝ }
 {
-    let opened = values::open_with(25, token, events, out);
-    let named = types::named_type(text, items, token.next, events, opened);
+    let opened = values::token::open_with(25, token, events, out);
+    let named = types::ty::named_type(text, items, token.next, events, opened);
     then_close(text, named, 25, token.start, events)
 }
 
@@ -89,7 +89,7 @@ fn fragment_head(
     requires { ⌜ Front (now text) (dots .next) token ⌝ }
     ensures { λ r. ⌜ ((c : Bool) (depth : ℕ) → Goes c (now (text .entry)) (spread depth (tokenOf dots) ∷ []) (optDirectives depth ∷ selectionSet depth ∷ close 24 (dots .start) ∷ []) (now (events .entry)) (now (events .exit)) (Done (dots .next) (dots .start + dots .size) out) r) ⌝ }
 {
-    let opened = values::open_with(24, dots, events, out);
+    let opened = values::token::open_with(24, dots, events, out);
     if token.kind == 25 {
         return type_condition(text, items, token, events, opened);
     }

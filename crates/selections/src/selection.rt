@@ -21,7 +21,7 @@ fn begins_selection(kind: u8) -> bool
     if kind == 9 {
         return true;
     }
-    values::is_name(kind)
+    values::name::is_name(kind)
 }
 
 // A selection, whose first token is the token.
@@ -63,7 +63,7 @@ fn selection_set(
     ensures { λ r. ⌜ ((at l : ℕ) → Front (now (text .entry)) at token → Outcome false (now (text .entry)) (selectionSet depth ∷ []) [] l at (now (events .entry)) out (now (events .exit)) r) ⌝ }
 {
     let start = token.start;
-    let mut o = values::open_with(15, token, events, out);
+    let mut o = values::token::open_with(15, token, events, out);
     let mut i = token.next;
     let first = parser::peek_token(text, items, i);
     if depth == 0 {
@@ -85,7 +85,7 @@ fn selection_set(
             return Step::Done {
                 next: t.next,
                 end: t.start + t.size,
-                out: values::close_with(15, start, t, events, o),
+                out: values::token::close_with(15, start, t, events, o),
             };
         }
         if !begins_selection(kind) {

@@ -16,7 +16,7 @@ pub fn then_name(text: &[u8], items: &[u8], step: Step, events: &mut [u8]) -> St
 {
     match step {
         Step::Stop { number, place } => Step::Stop { number, place },
-        Step::Done { next, end: _, out } => values::name(text, items, next, events, out),
+        Step::Done { next, end: _, out } => values::name::name(text, items, next, events, out),
     }
 }
 
@@ -28,7 +28,7 @@ pub fn then_colon(text: &[u8], items: &[u8], step: Step, events: &mut [u8]) -> S
 {
     match step {
         Step::Stop { number, place } => Step::Stop { number, place },
-        Step::Done { next, end: _, out } => values::colon(text, items, next, events, out),
+        Step::Done { next, end: _, out } => values::token::colon(text, items, next, events, out),
     }
 }
 
@@ -41,7 +41,7 @@ pub fn then_value(text: &[u8], items: &[u8], step: Step, depth: usize, events: &
     match step {
         Step::Stop { number, place } => Step::Stop { number, place },
         Step::Done { next, end: _, out } => {
-            values::value(text, items, false, next, depth, events, out)
+            values::value::value(text, items, false, next, depth, events, out)
         }
     }
 }

@@ -40,8 +40,8 @@ use Rattle.selections.proofs.fragment.fragment_spread.Reads as fragment
 use Rattle.selections.proofs.fragment.is_fragment_name.Reads as is-fragment-name-reads
 use Rattle.selections.proofs.selection.begins_selection.Reads as begins-selection-reads
 use Rattle.selections.proofs.step.then_close.Reads as then-close-reads
-use Rattle.values.proofs.close_with.Reads as close-with-reads
-use Rattle.values.proofs.open_with.Reads as open-with-reads
+use Rattle.values.proofs.token.close_with.Reads as close-with-reads
+use Rattle.values.proofs.token.open_with.Reads as open-with-reads
 use Rattle.selections.proofs.+field-field+fragment-inline_fragment+selection-selection+selection-selection_set+selection-then_selection_set.{statement}
 use Rattle.selections.proofs.+field-field+fragment-inline_fragment+selection-selection+selection-selection_set+selection-then_selection_set.Tie as tie
 
