@@ -366,16 +366,8 @@ value-returns-7 t c = λ l. rw (c .before .before .before .before .if6 .left) (c
 
 pub +list-value+object-field+object-value+value-spec : {M : Type 1} → statement M
 +list-value+object-field+object-value+value-spec =
-    tie.close μ-list-value μ-object-field μ-object-value μ-value (λ t. list-value-lts.spec (
-      open-with-reads.Asked,
-      open-with-reads.Learnt,
-      peek-token-reads.Asked,
-      peek-token-reads.Learnt,
-      close-with-reads.Asked,
-      close-with-reads.Learnt,
-      value-below t,
-      value.Post,
-    )
+    tie.close μ-list-value μ-object-field μ-object-value μ-value (λ t. list-value-lts.spec
+    (list-value-calls t)
     (list-value-at t)
     list-value.Post
     list-value-Inv-loop
@@ -399,16 +391,8 @@ pub +list-value+object-field+object-value+value-spec : {M : Type 1} → statemen
     (list-value-enum-known-next t)
     (list-value-loop-less t)
     (list-value-loop-again t))
-    (λ t. object-field-lts.spec (
-      field-name-reads.Asked,
-      field-name-reads.Learnt,
-      peek-token-reads.Asked,
-      peek-token-reads.Learnt,
-      value-below t,
-      value.Post,
-      put-close-reads.Asked,
-      put-close-reads.Learnt,
-    )
+    (λ t. object-field-lts.spec
+    (object-field-calls t)
     (object-field-at t)
     object-field.Post
     (object-field-field-name-requires t)
@@ -428,18 +412,8 @@ pub +list-value+object-field+object-value+value-spec : {M : Type 1} → statemen
     (object-field-returns-3 t)
     (object-field-same-length-4 t)
     (object-field-returns-4 t))
-    (λ t. object-value-lts.spec (
-      open-with-reads.Asked,
-      open-with-reads.Learnt,
-      peek-token-reads.Asked,
-      peek-token-reads.Learnt,
-      close-with-reads.Asked,
-      close-with-reads.Learnt,
-      is-name-reads.Asked,
-      is-name-reads.Learnt,
-      object-field-below t,
-      object-field.Post,
-    )
+    (λ t. object-value-lts.spec
+    (object-value-calls t)
     (object-value-at t)
     object-value.Post
     object-value-Inv-loop
@@ -461,24 +435,8 @@ pub +list-value+object-field+object-value+value-spec : {M : Type 1} → statemen
     (object-value-enum-known-next t)
     (object-value-loop-less t)
     (object-value-loop-again t))
-    λ t. value-lts.spec (
-      peek-token-reads.Asked,
-      peek-token-reads.Learnt,
-      scalar-node-reads.Asked,
-      scalar-node-reads.Learnt,
-      put-leaf-reads.Asked,
-      put-leaf-reads.Learnt,
-      is-enum-reads.Asked,
-      is-enum-reads.Learnt,
-      enum-value-reads.Asked,
-      enum-value-reads.Learnt,
-      list-value-below t,
-      list-value.Post,
-      object-value-below t,
-      object-value.Post,
-      variable-reads.Asked,
-      variable-reads.Learnt,
-    )
+    λ t. value-lts.spec
+    (value-calls t)
     (value-at t)
     value.Post
     (value-peek-token-requires t)
