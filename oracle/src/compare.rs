@@ -1,4 +1,6 @@
-//! The large comparison: texts without end through the crate's lexer here and through `replay`, and every byte of the answers compared.
+//! The large comparison: texts without end through the crate here and through `replay`, and every byte of the answers compared.
+mod grammar;
+
 use crate::answers::{read_text, write_answer, write_part, Reading};
 use crate::cases::{write_case, Call, INTERFACE, ITEMS, PART};
 use crate::chance::Chance;
@@ -16,9 +18,12 @@ const MOST_TAPE: usize = 2_097_152;
 const BATCH: usize = 1 << 18;
 
 pub struct Choice {
-    pub replay: String,
+    /// The program to compare; without one, the crate's grammar is held against document 01's.
+    pub replay: Option<String>,
     pub quick: bool,
     pub seed: u64,
+    /// The identifiers of the differences that are known.
+    pub rows: Vec<String>,
 }
 
 /// Where a call's text and answer stand in a batch.
@@ -29,7 +34,7 @@ struct Mark {
 }
 
 struct Comparison {
-    replay: Replay,
+    replay: Option<Replay>,
     path: String,
     chance: Chance,
     cases: Vec<u8>,
@@ -48,8 +53,8 @@ struct Comparison {
 impl Comparison {
     fn new(choice: &Choice) -> Result<Comparison, String> {
         Ok(Comparison {
-            replay: Replay::start(&choice.replay)?,
-            path: choice.replay.clone(),
+            replay: choice.replay.as_deref().map(Replay::start).transpose()?,
+            path: choice.replay.clone().unwrap_or_default(),
             chance: Chance::new(choice.seed),
             cases: Vec::new(),
             expected: Vec::new(),
@@ -109,7 +114,10 @@ impl Comparison {
 
     /// Hands the batch over and compares.
     fn flush(&mut self) -> Result<(), String> {
-        let answers = self.replay.answers(self.cases.clone(), self.expected.len())?;
+        let answers = match &mut self.replay {
+            Some(replay) => replay.answers(self.cases.clone(), self.expected.len())?,
+            None => self.expected.clone(),
+        };
         if answers != self.expected {
             for mark in &self.marks {
                 let text = &self.cases[mark.text.clone()];
@@ -142,9 +150,12 @@ impl Comparison {
         Ok(())
     }
 
-    /// Makes each finding's text smaller as long as it stays of its class.
+    /// Makes each finding's text smaller as long as it stays of its class, and puts what was found in words.
     fn shrink(&mut self) {
         for (class, finding) in &mut self.findings.0 {
+            if let Some((_, words)) = grammar::again(class, &finding.call, &finding.text) {
+                finding.words = words;
+            }
             let mut size = finding.text.len() / 2;
             let mut tries = 2000;
             while size > 0 && tries > 0 {
@@ -153,7 +164,7 @@ impl Comparison {
                     tries -= 1;
                     let mut text = finding.text.clone();
                     text.drain(at..at + size);
-                    match alone(&self.path, &finding.call, &text) {
+                    match grammar::again(class, &finding.call, &text).or_else(|| alone(&self.path, &finding.call, &text)) {
                         Some((found, words)) if found == *class => (finding.text, finding.words) = (text, words),
                         _ => at += size,
                     }
@@ -334,17 +345,24 @@ fn random_texts(c: &mut Comparison, quick: bool) -> Result<(), String> {
     c.set("random: parts (document 01, not the crate)", |c| parts(c, times(100_000, 500_000)))
 }
 
-/// Runs the whole plan; true if nothing differs.
-pub fn compare(choice: &Choice) -> Result<bool, String> {
-    println!("seed {}", choice.seed);
-    let mut c = Comparison::new(choice)?;
-    for family in families(choice.quick) {
+fn item_texts(c: &mut Comparison, quick: bool) -> Result<(), String> {
+    for family in families(quick) {
         let name = format!("{}: up to {} of {} pieces", family.name, family.most(), family.pieces());
         c.set(&name, |c| family.each(|text| c.text(text, few_calls)))?;
     }
-    c.set("each scalar value", |c| each_scalar(choice.quick, |text| c.text(text, few_calls)))?;
-    c.set("each number in an escape", |c| each_escape(choice.quick, |text| c.text(text, few_calls)))?;
-    random_texts(&mut c, choice.quick)?;
+    c.set("each scalar value", |c| each_scalar(quick, |text| c.text(text, few_calls)))?;
+    c.set("each number in an escape", |c| each_escape(quick, |text| c.text(text, few_calls)))?;
+    random_texts(c, quick)
+}
+
+/// Runs the whole plan; true if nothing differs but what has a row.
+pub fn compare(choice: &Choice) -> Result<bool, String> {
+    println!("seed {}", choice.seed);
+    let mut c = Comparison::new(choice)?;
+    if choice.replay.is_some() {
+        item_texts(&mut c, choice.quick)?;
+    }
+    grammar::grammar_texts(&mut c, choice.quick)?;
 
     println!("\nin all: {} texts, {} calls, {:.0} s", c.texts, c.calls, c.begun.elapsed().as_secs_f64());
     let listed = |counts: &[u64]| counts.iter().enumerate().filter(|(_, n)| **n > 0).map(|(i, n)| format!("{i}: {n}")).collect::<Vec<_>>().join(", ");
@@ -352,11 +370,11 @@ pub fn compare(choice: &Choice) -> Result<bool, String> {
     println!("answers by number: {}", listed(&c.numbers));
     c.shrink();
     c.findings.print();
-    println!("{} classes of difference", c.findings.0.len());
-    let same = c.findings.0.is_empty();
-    let rest = c.replay.last_answers(Vec::new())?;
+    let unknown = c.findings.without_row(&choice.rows);
+    println!("\n{} classes of difference, {unknown} of them without a row", c.findings.0.len());
+    let rest = c.replay.map_or(Ok(Vec::new()), |replay| replay.last_answers(Vec::new()))?;
     if !rest.is_empty() {
         return Err(format!("replay wrote {} bytes after its last answer", rest.len()));
     }
-    Ok(same)
+    Ok(unknown == 0)
 }

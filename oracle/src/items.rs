@@ -38,7 +38,7 @@ fn token_code(kind: TokenKind) -> u8 {
 
 /// Document 01's number of an error, by the crate's message. Two messages hold the character: in double quotes, and in backquotes
 /// with what was expected after it. A `-` at the text's end has the message of an unexpected character, and no other `-` has it.
-fn error_number(message: &str) -> Option<u8> {
+pub fn error_number(message: &str) -> Option<u8> {
     if let Some(rest) = message.strip_prefix("Unexpected character ") {
         let mut chars = rest.chars();
         let open = chars.next()?;
