@@ -2,7 +2,7 @@
 use crate::cases::{Call, INTERFACE, ITEMS, PART, UNTOUCHED};
 use crate::departures::{differences, lexical_differences, Class};
 use crate::grammar::{self, Entry};
-use crate::items::{items_of, limit_agrees, Item};
+use crate::items::{items_of, limit_departs, Item};
 
 /// The longest text, in bytes.
 const LONGEST: usize = 16_777_216;
@@ -70,26 +70,31 @@ fn given(text: &str, items: &[Item], limit: u64, room: usize) -> Answer {
     stopped(0, text.len(), items.len())
 }
 
-fn answer_of(call: &Call, reading: &Reading) -> Result<Answer, String> {
+fn answer_of(call: &Call, reading: &Reading) -> Answer {
     if call.entry == INTERFACE && call.depth != 0 {
-        return Ok(refusal(11, 0));
+        return refusal(11, 0);
     }
     if call.grammar().is_some() && call.depth > DEEPEST {
-        return Ok(refusal(1, 0));
+        return refusal(1, 0);
     }
     match reading {
-        Reading::TooLong => Ok(refusal(2, 0)),
-        Reading::IllFormed(place) => Ok(refusal(3, *place)),
+        Reading::TooLong => refusal(2, 0),
+        Reading::IllFormed(place) => refusal(3, *place),
         Reading::Items(text, items) => {
-            if call.limit <= items.len() as u64 {
-                limit_agrees(text, items, call.limit as usize)?;
-            }
             let answer = given(text, items, call.limit, call.item_bytes / 8);
             match call.grammar() {
-                Some(entry) if answer.number == 0 => Ok(sentence(call, entry, text, items)),
-                _ => Ok(answer),
+                Some(entry) if answer.number == 0 => sentence(call, entry, text, items),
+                _ => answer,
             }
         }
+    }
+}
+
+/// The crate's own limit on the text of a call: true if it reports another place than document 01 (D-1).
+pub fn limit_differs(call: &Call, reading: &Reading) -> Result<bool, String> {
+    match reading {
+        Reading::Items(text, items) if call.limit <= items.len() as u64 => limit_departs(text, items, call.limit as usize),
+        _ => Ok(false),
     }
 }
 
@@ -132,7 +137,7 @@ pub fn write_answer(call: &Call, reading: &Reading, out: &mut Vec<u8>) -> Result
     if call.entry != ITEMS && call.entry != INTERFACE && call.grammar().is_none() {
         return Err(format!("there is no entry {}", call.entry));
     }
-    let answer = answer_of(call, reading)?;
+    let answer = answer_of(call, reading);
     out.extend(answer.number.to_be_bytes());
     out.extend((answer.place as u64).to_be_bytes());
     out.extend((answer.items as u64).to_be_bytes());
@@ -168,5 +173,6 @@ pub fn write_any(call: &Call, text: &[u8], out: &mut Vec<u8>) -> Result<(), Stri
     if let Some(class) = grammar_differences(call, &reading)?.iter().find(|class| !class.starts_with("D-")) {
         return Err(format!("the crate's grammar: {class}"));
     }
+    limit_differs(call, &reading)?;
     write_answer(call, &reading, out)
 }

@@ -1,7 +1,7 @@
 //! The large comparison: texts without end through the crate here and through `replay`, and every byte of the answers compared.
 mod grammar;
 
-use crate::answers::{read_text, write_answer, write_part, Reading};
+use crate::answers::{limit_differs, read_text, write_answer, write_part, Reading};
 use crate::cases::{write_case, Call, INTERFACE, ITEMS, PART};
 use crate::chance::Chance;
 use crate::exhaustive::{each_escape, each_scalar, families};
@@ -14,6 +14,7 @@ use std::time::Instant;
 /// The longest text and tape that `replay` takes.
 const MOST_TEXT: usize = 1_048_577;
 const MOST_TAPE: usize = 2_097_152;
+const LIMIT_AT_END: &str = "D-1, the place of a limit that the text's end follows";
 /// A batch is handed over when its cases or answers pass this.
 const BATCH: usize = 1 << 18;
 
@@ -24,6 +25,9 @@ pub struct Choice {
     pub seed: u64,
     /// The identifiers of the differences that are known.
     pub rows: Vec<String>,
+    /// Reading items, and the grammar entries.
+    pub items: bool,
+    pub grammar: bool,
 }
 
 /// Where a call's text and answer stand in a batch.
@@ -95,11 +99,13 @@ impl Comparison {
     }
 
     fn call(&mut self, call: &Call, text: &[u8], reading: &Reading) -> Result<(), String> {
-        let answer = self.expected.len();
-        if let Err(words) = write_answer(call, reading, &mut self.expected) {
-            self.expected.truncate(answer);
-            return self.crate_fails(call, text, "the crate's limit", words);
+        match limit_differs(call, reading) {
+            Ok(false) => {}
+            Ok(true) => self.findings.add(LIMIT_AT_END.to_string(), call, text, "the crate reports the length minus 1".to_string()),
+            Err(words) => return self.crate_fails(call, text, "the crate's limit", words),
         }
+        let answer = self.expected.len();
+        write_answer(call, reading, &mut self.expected)?;
         self.numbers[usize::from(self.expected[answer + 7])] += 1;
         self.mark(call, text, answer);
         Ok(())
@@ -152,7 +158,7 @@ impl Comparison {
 
     /// Makes each finding's text smaller as long as it stays of its class, and puts what was found in words.
     fn shrink(&mut self) {
-        for (class, finding) in &mut self.findings.0 {
+        for (class, finding) in self.findings.0.iter_mut().filter(|(class, _)| *class != LIMIT_AT_END) {
             if let Some((_, words)) = grammar::again(class, &finding.call, &finding.text) {
                 finding.words = words;
             }
@@ -359,10 +365,12 @@ fn item_texts(c: &mut Comparison, quick: bool) -> Result<(), String> {
 pub fn compare(choice: &Choice) -> Result<bool, String> {
     println!("seed {}", choice.seed);
     let mut c = Comparison::new(choice)?;
-    if choice.replay.is_some() {
+    if choice.items {
         item_texts(&mut c, choice.quick)?;
     }
-    grammar::grammar_texts(&mut c, choice.quick)?;
+    if choice.grammar {
+        grammar::grammar_texts(&mut c, choice.quick)?;
+    }
 
     println!("\nin all: {} texts, {} calls, {:.0} s", c.texts, c.calls, c.begun.elapsed().as_secs_f64());
     let listed = |counts: &[u64]| counts.iter().enumerate().filter(|(_, n)| **n > 0).map(|(i, n)| format!("{i}: {n}")).collect::<Vec<_>>().join(", ");

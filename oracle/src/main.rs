@@ -23,7 +23,7 @@ use std::io::{self, BufReader, BufWriter, Write};
 use std::process::ExitCode;
 
 const USAGE: &str = "usage: oracle items <CASES >ANSWERS
-       oracle compare REPLAY [--quick] [--seed N] [--rows FILE]
+       oracle compare REPLAY [--quick] [--seed N] [--rows FILE] [--only items|grammar]
        oracle judge [--quick] [--seed N] [--rows FILE]
        oracle show value|constant|type|selection TEXT [DEPTH]";
 
@@ -54,13 +54,18 @@ fn rows(path: &str) -> Result<Vec<String>, String> {
 }
 
 fn choice(words: &[&str]) -> Result<compare::Choice, String> {
-    let mut choice = compare::Choice { replay: None, quick: false, seed: 1, rows: Vec::new() };
+    let mut choice = compare::Choice { replay: None, quick: false, seed: 1, rows: Vec::new(), items: true, grammar: true };
     let mut words = words.iter();
     while let Some(word) = words.next() {
         match *word {
             "--quick" => choice.quick = true,
             "--seed" => choice.seed = words.next().and_then(|n| n.parse().ok()).ok_or(USAGE)?,
             "--rows" => choice.rows = rows(words.next().ok_or(USAGE)?)?,
+            "--only" => match words.next() {
+                Some(&"items") => choice.grammar = false,
+                Some(&"grammar") => choice.items = false,
+                _ => return Err(USAGE.to_string()),
+            },
             path if choice.replay.is_none() && !path.starts_with("--") => choice.replay = Some(path.to_string()),
             _ => return Err(USAGE.to_string()),
         }
@@ -76,8 +81,8 @@ fn run(words: &[&str]) -> Result<bool, String> {
             choice => compare::compare(&choice),
         },
         ["judge", rest @ ..] => match choice(rest)? {
-            choice if choice.replay.is_some() => Err(USAGE.to_string()),
-            choice => compare::compare(&choice),
+            choice if choice.replay.is_some() || !choice.grammar => Err(USAGE.to_string()),
+            choice => compare::compare(&compare::Choice { items: false, ..choice }),
         },
         ["show", entry, text] => show::show(entry, text, "500").map(|()| true),
         ["show", entry, text, depth] => show::show(entry, text, depth).map(|()| true),
