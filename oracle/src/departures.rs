@@ -1,101 +1,17 @@
-//! What the crate's grammar says of a text, held against document 01's answer, and the classes of the differences that were found. Each
-//! class has a row of its identifier in docs/DIFFERENCES.md.
-use crate::frames::{frame, Frame};
+//! What the crate's parser says of a text held against document 01's answer, and the classes of the differences. A class that begins with an
+//! identifier has a row in docs/DIFFERENCES.md.
 use crate::grammar::{self, ignored, Due, Entry, Refusal, Sentence};
 use crate::items::{error_number, Item};
-use crate::trees::{node_at, Node};
-use apollo_parser::{Error, Parser};
+use crate::parser::{event_words, said_words, says, says_of_faulty, Outcome, Said};
+use apollo_parser::Parser;
 
 /// What differs. It begins with the row's identifier if there is one.
 pub type Class = &'static str;
 
-#[derive(Clone, PartialEq, Eq)]
-enum Outcome {
-    /// Without an error, and the text fills its frame.
-    Accepts(Vec<Item>),
-    Refuses {
-        number: u64,
-        place: usize,
-    },
-}
-
-/// What the crate does with a text.
-struct Said {
-    outcome: Outcome,
-    errors: Vec<Error>,
-    /// It has more than one error, with the whole frame around the text.
-    goes_on: bool,
-    /// The text's first place in the document that the crate was given.
-    before: usize,
-}
-
-/// Runs the crate's parser on the text in its frame. A frame is cut where nothing follows the text.
-fn crate_says(entry: Entry, text: &str, tokens: &[&Item], depth: u64, cut: bool) -> Result<Said, String> {
-    let frame = frame(entry, depth);
-    let document = format!("{}{}{}", frame.before, text, if cut { "" } else { frame.after });
-    let tree = Parser::new(&document).recursion_limit((depth + frame.depth) as usize).parse();
-    let before = frame.before.len();
-    let errors: Vec<Error> = tree.errors().cloned().collect();
-    let node = node_at(tree.green().steps(), frame, before + tokens[0].start);
-    let outcome = outcome(text, tokens, frame, errors.first(), node)?;
-    Ok(Said { outcome, goes_on: errors.len() > 1, errors, before })
-}
-
-/// The crate refuses where its first error is, or already at the first token that the text's node leaves over.
-fn outcome(text: &str, tokens: &[&Item], frame: &Frame, error: Option<&Error>, node: Option<Node>) -> Result<Outcome, String> {
-    let before = frame.before.len();
-    let over = match &node {
-        None => Some(tokens[0].start),
-        Some(node) => tokens.iter().find(|t| t.length > 0 && before + t.start >= node.end).map(|t| t.start),
-    };
-    let refusal = match error {
-        None => None,
-        Some(error) => {
-            let place = error.index().checked_sub(before).ok_or(format!("an error in front of the text: {error}"))?;
-            // What follows the text in the frame stands for Eof.
-            Some((number_of(error), place.min(text.len())))
-        }
-    };
-    match (refusal, over, node) {
-        (Some((number, place)), over, _) if over.is_none_or(|over| place <= over) => Ok(Outcome::Refuses { number, place }),
-        (_, Some(place), _) => Ok(Outcome::Refuses { number: 9, place }),
-        (_, None, Some(node)) => Ok(Outcome::Accepts(moved(node.events, before))),
-        (_, None, None) => unreachable!("without a node the first token is left over"),
-    }
-}
-
-/// Document 01's number of an error of the crate's grammar.
-fn number_of(error: &Error) -> u64 {
-    if error.is_limit() {
-        7
-    } else if error.message() == "unexpected variable value in a Const context" {
-        8
-    } else {
-        9
-    }
-}
-
-fn moved(mut events: Vec<Item>, before: usize) -> Vec<Item> {
-    for event in &mut events {
-        event.start -= before;
-    }
-    events
-}
-
-/// What the crate does with a text without lexical errors. Where its frame's end is where it refuses, nothing follows the text: only then does
-/// the crate meet Eof where document 01 does.
-fn crate_says_well(entry: Entry, text: &str, tokens: &[&Item], depth: u64) -> Result<Said, String> {
-    let said = crate_says(entry, text, tokens, depth, false)?;
-    match said.outcome {
-        Outcome::Refuses { place, .. } if place == text.len() => Ok(Said { goes_on: said.goes_on, ..crate_says(entry, text, tokens, depth, true)? }),
-        _ => Ok(said),
-    }
-}
-
 /// Holds the crate against the answer to a text whose items have no error.
 pub fn differences(entry: Entry, text: &str, items: &[Item], depth: u64, judged: &Result<Sentence, Refusal>) -> Result<Vec<Class>, String> {
     let tokens: Vec<&Item> = items.iter().filter(|item| !ignored(item)).collect();
-    let said = crate_says_well(entry, text, &tokens, depth)?;
+    let said = says(entry, text, &tokens, depth)?;
     let mut found = Vec::new();
     found.extend(class(entry, text, items, depth, judged, &said)?);
     if said.goes_on {
@@ -146,7 +62,7 @@ fn class(entry: Entry, text: &str, items: &[Item], depth: u64, judged: &Result<S
     if items.iter().any(|item| item.code == 3) {
         let (text, items) = without_commas(text, items);
         let tokens: Vec<&Item> = items.iter().filter(|item| !ignored(item)).collect();
-        let twin = crate_says_well(entry, &text, &tokens, depth)?;
+        let twin = says(entry, &text, &tokens, depth)?;
         if twin.outcome != said.outcome && class(entry, &text, &items, depth, judged, &twin)?.is_none_or(|class| class.starts_with("D-")) {
             return Ok(Some(COMMA));
         }
@@ -186,7 +102,7 @@ pub fn lexical_differences(entry: Entry, text: &str, items: &[Item], depth: u64)
         return Ok(Vec::new());
     };
     let tokens: Vec<&Item> = items.iter().filter(|item| !ignored(item)).collect();
-    let said = crate_says(entry, text, &tokens, depth, true)?;
+    let said = says_of_faulty(entry, text, &tokens, depth)?;
     let lexical = said.errors.iter().find(|error| !error.is_limit() && error_number(error.message()).is_some());
     match lexical {
         Some(error) if error.index() == said.before + fault.start && error_number(error.message()) == Some(fault.code - 64) => {
@@ -203,10 +119,6 @@ pub fn silent_named_type() -> Option<(Class, &'static str)> {
     (Parser::new(document).parse().errors().len() == 0).then_some((NO_NAMED_TYPE, document))
 }
 
-fn event_words(events: &[Item]) -> String {
-    events.iter().map(|e| format!("{} {} {}", e.code, e.start, e.length)).collect::<Vec<_>>().join(", ")
-}
-
 fn judged_words(judged: &Result<Sentence, Refusal>) -> String {
     match judged {
         Ok(sentence) => format!("0 with depth {} and events {}", sentence.depth, event_words(&sentence.events)),
@@ -214,21 +126,10 @@ fn judged_words(judged: &Result<Sentence, Refusal>) -> String {
     }
 }
 
-fn said_words(said: &Said) -> String {
-    let mut words = match &said.outcome {
-        Outcome::Accepts(events) => format!("accepts with events {}", event_words(events)),
-        Outcome::Refuses { number, place } => format!("refuses with {number} at {place}"),
-    };
-    for error in said.errors.iter().take(8) {
-        words.push_str(&format!("; {:?} at {}", error.message(), error.index() as i64 - said.before as i64));
-    }
-    words
-}
-
 /// What both say of a text, in words.
 pub fn both_words(entry: Entry, text: &str, items: &[Item], depth: u64) -> Result<String, String> {
     let tokens: Vec<&Item> = items.iter().filter(|item| !ignored(item)).collect();
-    let said = crate_says_well(entry, text, &tokens, depth)?;
+    let said = says(entry, text, &tokens, depth)?;
     let judged = match items.iter().find(|item| item.code >= 64) {
         Some(fault) => format!("6 at {}", fault.start),
         None => judged_words(&grammar::read(entry, text, items, depth)),

@@ -12,6 +12,7 @@ mod findings;
 mod frames;
 mod grammar;
 mod items;
+mod parser;
 mod pipe;
 mod random;
 mod sentences;

@@ -196,10 +196,13 @@ fn wide_sentences(c: &mut Comparison, times: usize) -> Result<(), String> {
         for entry in [VALUE, CONSTANT, SELECTION_SET] {
             let plain = i % 2 == 0;
             let siblings = if plain { c.chance.from(49_000, 101_000) } else { c.chance.from(1_000, 10_000) };
-            let tokens = wide(&mut c.chance, entry, siblings, plain);
-            let text = joined(&mut c.chance, &tokens);
-            if text.len() <= MOST_TEXT {
-                c.sentence(entry, text.as_bytes(), Needs::near_calls)?;
+            let mut tokens = wide(&mut c.chance, entry, siblings, plain);
+            for _ in 0..2 {
+                let text = joined(&mut c.chance, &tokens);
+                if text.len() <= MOST_TEXT {
+                    c.sentence(entry, text.as_bytes(), Needs::near_calls)?;
+                }
+                damage(&mut c.chance, &mut tokens);
             }
         }
     }
