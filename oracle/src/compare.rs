@@ -8,11 +8,13 @@ use crate::chance::Chance;
 use crate::findings::{answer_words, class_of, Findings};
 use crate::pipe::Replay;
 use std::panic::{catch_unwind, AssertUnwindSafe};
-use std::time::Instant;
+use std::time::{Duration, Instant};
 
 /// The longest text and tape that `replay` takes.
 const MOST_TEXT: usize = 1_048_577;
 const MOST_TAPE: usize = 2_097_152;
+/// How long a finding's text is made smaller.
+const SHRINKING: Duration = Duration::from_secs(5);
 const LIMIT_AT_END: &str = "D-1, the place of a limit that the text's end follows";
 /// A batch is handed over when its cases or answers pass this.
 const BATCH: usize = 1 << 18;
@@ -142,11 +144,11 @@ impl Comparison {
                 finding.words = words;
             }
             let mut size = finding.text.len() / 2;
-            let mut tries = 2000;
-            while size > 0 && tries > 0 {
+            let begun = Instant::now();
+            let go_on = || begun.elapsed() < SHRINKING;
+            while size > 0 && go_on() {
                 let mut at = 0;
-                while at + size <= finding.text.len() && tries > 0 {
-                    tries -= 1;
+                while at + size <= finding.text.len() && go_on() {
                     let mut text = finding.text.clone();
                     text.drain(at..at + size);
                     match grammar::again(class, &finding.call, &text).or_else(|| alone(&self.path, &finding.call, &text)) {

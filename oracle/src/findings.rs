@@ -3,6 +3,9 @@ use crate::cases::{Call, CONSTANT, INTERFACE, PART, SELECTION_SET, TYPE, UNTOUCH
 use std::collections::BTreeMap;
 use std::fmt::Write;
 
+/// So many bytes of a text are printed.
+const MOST_SHOWN: usize = 500;
+
 pub struct Finding {
     pub times: u64,
     pub call: Call,
@@ -33,11 +36,19 @@ impl Findings {
                 "\n{}: {} times. The smallest:\n    {} {}\n    {}",
                 class,
                 finding.times,
-                notation(&finding.text),
+                shown(&finding.text),
                 call_words(&finding.call),
                 finding.words
             );
         }
+    }
+}
+
+/// A text in words, a long one in part: the seed gives it again.
+fn shown(text: &[u8]) -> String {
+    match text.len() {
+        0..=MOST_SHOWN => notation(text),
+        length => format!("{} and so on, {length} bytes in all,", notation(&text[..MOST_SHOWN])),
     }
 }
 
