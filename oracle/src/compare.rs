@@ -26,9 +26,8 @@ pub struct Choice {
     pub seed: u64,
     /// The identifiers of the differences that are known.
     pub rows: Vec<String>,
-    /// Reading items, and the grammar entries.
-    pub items: bool,
-    pub grammar: bool,
+    /// The sets of texts whose names begin so are run.
+    pub only: String,
 }
 
 /// Where a call's text and answer stand in a batch.
@@ -41,6 +40,7 @@ struct Mark {
 struct Comparison {
     replay: Option<Replay>,
     path: String,
+    only: String,
     chance: Chance,
     cases: Vec<u8>,
     expected: Vec<u8>,
@@ -60,6 +60,7 @@ impl Comparison {
         Ok(Comparison {
             replay: choice.replay.as_deref().map(Replay::start).transpose()?,
             path: choice.replay.clone().unwrap_or_default(),
+            only: choice.only.clone(),
             chance: Chance::new(choice.seed),
             cases: Vec::new(),
             expected: Vec::new(),
@@ -128,8 +129,11 @@ impl Comparison {
         Ok(())
     }
 
-    /// Runs a set of texts and says how many it had.
+    /// Runs a set of texts, if it is chosen, and says how many it had.
     fn set(&mut self, name: &str, run: impl FnOnce(&mut Self) -> Result<(), String>) -> Result<(), String> {
+        if !name.starts_with(&self.only) {
+            return Ok(());
+        }
         let (texts, calls, begun) = (self.texts, self.calls, Instant::now());
         run(self)?;
         self.flush()?;
@@ -191,12 +195,8 @@ fn difference(call: &Call, expected: &[u8], given: &[u8]) -> String {
 pub fn compare(choice: &Choice) -> Result<bool, String> {
     println!("seed {}", choice.seed);
     let mut c = Comparison::new(choice)?;
-    if choice.items {
-        items::item_texts(&mut c, choice.quick)?;
-    }
-    if choice.grammar {
-        grammar::grammar_texts(&mut c, choice.quick)?;
-    }
+    items::item_texts(&mut c, choice.quick)?;
+    grammar::grammar_texts(&mut c, choice.quick)?;
 
     println!("\nin all: {} texts, {} calls, {:.0} s", c.texts, c.calls, c.begun.elapsed().as_secs_f64());
     let listed = |counts: &[u64]| counts.iter().enumerate().filter(|(_, n)| **n > 0).map(|(i, n)| format!("{i}: {n}")).collect::<Vec<_>>().join(", ");

@@ -24,8 +24,8 @@ use std::io::{self, BufReader, BufWriter, Write};
 use std::process::ExitCode;
 
 const USAGE: &str = "usage: oracle items <CASES >ANSWERS
-       oracle compare REPLAY [--quick] [--seed N] [--rows FILE] [--only items|grammar]
-       oracle judge [--quick] [--seed N] [--rows FILE]
+       oracle compare REPLAY [--quick] [--seed N] [--rows FILE] [--only SETS]
+       oracle judge [--quick] [--seed N] [--rows FILE] [--only SETS]
        oracle show value|constant|type|selection TEXT [DEPTH]";
 
 /// Answers each case of the input; an `Err` names the first that has no answer.
@@ -55,18 +55,14 @@ fn rows(path: &str) -> Result<Vec<String>, String> {
 }
 
 fn choice(words: &[&str]) -> Result<compare::Choice, String> {
-    let mut choice = compare::Choice { replay: None, quick: false, seed: 1, rows: Vec::new(), items: true, grammar: true };
+    let mut choice = compare::Choice { replay: None, quick: false, seed: 1, rows: Vec::new(), only: String::new() };
     let mut words = words.iter();
     while let Some(word) = words.next() {
         match *word {
             "--quick" => choice.quick = true,
             "--seed" => choice.seed = words.next().and_then(|n| n.parse().ok()).ok_or(USAGE)?,
             "--rows" => choice.rows = rows(words.next().ok_or(USAGE)?)?,
-            "--only" => match words.next() {
-                Some(&"items") => choice.grammar = false,
-                Some(&"grammar") => choice.items = false,
-                _ => return Err(USAGE.to_string()),
-            },
+            "--only" => choice.only = words.next().ok_or(USAGE)?.to_string(),
             path if choice.replay.is_none() && !path.starts_with("--") => choice.replay = Some(path.to_string()),
             _ => return Err(USAGE.to_string()),
         }
@@ -82,8 +78,9 @@ fn run(words: &[&str]) -> Result<bool, String> {
             choice => compare::compare(&choice),
         },
         ["judge", rest @ ..] => match choice(rest)? {
-            choice if choice.replay.is_some() || !choice.grammar => Err(USAGE.to_string()),
-            choice => compare::compare(&compare::Choice { items: false, ..choice }),
+            choice if choice.replay.is_some() => Err(USAGE.to_string()),
+            choice if choice.only.is_empty() => compare::compare(&compare::Choice { only: "grammar".to_string(), ..choice }),
+            choice => compare::compare(&choice),
         },
         ["show", entry, text] => show::show(entry, text, "500").map(|()| true),
         ["show", entry, text, depth] => show::show(entry, text, depth).map(|()| true),

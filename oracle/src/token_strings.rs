@@ -67,7 +67,7 @@ pub fn vocabularies(quick: bool) -> Vec<Vocabulary> {
         of("arguments, opened", SELECTION_SET, &["{", "a", "("], &ARGUMENTS, most(4, 6)),
         of("arguments of directives, opened", SELECTION_SET, &["{", "a", "@", "a", "("], &ARGUMENTS, most(4, 6)),
     ];
-    for (name, entry) in [("value", VALUE), ("constant", CONSTANT), ("type", TYPE), ("selection set", SELECTION_SET)] {
+    for (name, entry) in [("a value", VALUE), ("a constant", CONSTANT), ("a type", TYPE), ("a selection set", SELECTION_SET)] {
         all.push(Vocabulary { detail: 2, ..of(name, entry, &[], &KINDS, most(3, 4)) });
     }
     all

@@ -212,10 +212,10 @@ fn wide_sentences(c: &mut Comparison, times: usize) -> Result<(), String> {
 pub fn grammar_texts(c: &mut Comparison, quick: bool) -> Result<(), String> {
     let times = |few, many| if quick { few } else { many };
     for vocabulary in vocabularies(quick) {
-        let name = format!("{}: up to {} of {} tokens", vocabulary.name, vocabulary.most, vocabulary.tokens.len());
+        let name = format!("grammar, {}: up to {} of {} tokens", vocabulary.name, vocabulary.most, vocabulary.tokens.len());
         c.set(&name, |c| one_vocabulary(c, &vocabulary))?;
     }
-    c.set("random: sentences, whole and damaged", |c| {
+    c.set("grammar, random: sentences, whole and damaged", |c| {
         for i in 0..times(8_000, 100_000) {
             let entry = ENTRIES[i % 4];
             let tokens = sentence(&mut c.chance, entry);
@@ -223,7 +223,7 @@ pub fn grammar_texts(c: &mut Comparison, quick: bool) -> Result<(), String> {
         }
         Ok(())
     })?;
-    c.set("random: deep sentences", |c| {
+    c.set("grammar, random: deep sentences", |c| {
         for i in 0..times(400, 4_000) {
             let levels = if i % 2 == 0 { c.chance.from(498, 502) } else { c.chance.from(1, 60) };
             let tokens = deep(&mut c.chance, ENTRIES[i / 2 % 4], levels);
@@ -231,10 +231,12 @@ pub fn grammar_texts(c: &mut Comparison, quick: bool) -> Result<(), String> {
         }
         Ok(())
     })?;
-    c.set("random: very many siblings", |c| wide_sentences(c, times(2, 24)))?;
-    if let Some((class, document)) = silent_named_type() {
-        let call = Call { entry: TYPE, limit: u64::MAX, depth: 0, item_bytes: 0, event_bytes: 0 };
-        c.findings.add(class.to_string(), &call, document.as_bytes(), "the crate accepts this document".to_string());
-    }
-    Ok(())
+    c.set("grammar, random: very many siblings", |c| wide_sentences(c, times(2, 24)))?;
+    c.set("grammar, a document for D-4", |c| {
+        if let Some((class, document)) = silent_named_type() {
+            let call = Call { entry: TYPE, limit: u64::MAX, depth: 0, item_bytes: 0, event_bytes: 0 };
+            c.findings.add(class.to_string(), &call, document.as_bytes(), "the crate accepts this document".to_string());
+        }
+        Ok(())
+    })
 }

@@ -138,21 +138,21 @@ fn parts_flush(c: &mut Comparison) -> Result<(), String> {
 
 fn random_texts(c: &mut Comparison, quick: bool) -> Result<(), String> {
     let times = |few, many| if quick { few } else { many };
-    c.set("random: soups", |c| {
+    c.set("items, random: soups", |c| {
         for _ in 0..times(150_000, 1_000_000) {
             let text = random::soup(&mut c.chance, 40);
             c.text(&text, many_calls)?;
         }
         Ok(())
     })?;
-    c.set("random: bytes", |c| {
+    c.set("items, random: bytes", |c| {
         for _ in 0..times(150_000, 1_000_000) {
             let text = random::bytes(&mut c.chance, 12);
             c.text(&text, many_calls)?;
         }
         Ok(())
     })?;
-    c.set("random: queries, whole and damaged", |c| {
+    c.set("items, random: queries, whole and damaged", |c| {
         for _ in 0..times(8_000, 60_000) {
             let mut text = random::query(&mut c.chance);
             c.text(&text, many_calls)?;
@@ -163,7 +163,7 @@ fn random_texts(c: &mut Comparison, quick: bool) -> Result<(), String> {
         }
         Ok(())
     })?;
-    c.set("random: long texts", |c| {
+    c.set("items, random: long texts", |c| {
         for i in 0..times(50, 1000) {
             let size = if i % 10 == 0 { 900_000 } else { c.chance.from(10_000, 150_000) };
             let mut text = random::long(&mut c.chance, size);
@@ -172,15 +172,15 @@ fn random_texts(c: &mut Comparison, quick: bool) -> Result<(), String> {
         }
         Ok(())
     })?;
-    c.set("random: parts (document 01, not the crate)", |c| parts(c, times(100_000, 500_000)))
+    c.set("items, random: parts (document 01, not the crate)", |c| parts(c, times(100_000, 500_000)))
 }
 
 pub fn item_texts(c: &mut Comparison, quick: bool) -> Result<(), String> {
     for family in families(quick) {
-        let name = format!("{}: up to {} of {} pieces", family.name, family.most(), family.pieces());
+        let name = format!("items, {}: up to {} of {} pieces", family.name, family.most(), family.pieces());
         c.set(&name, |c| family.each(|text| c.text(text, few_calls)))?;
     }
-    c.set("each scalar value", |c| each_scalar(quick, |text| c.text(text, few_calls)))?;
-    c.set("each number in an escape", |c| each_escape(quick, |text| c.text(text, few_calls)))?;
+    c.set("items, each scalar value", |c| each_scalar(quick, |text| c.text(text, few_calls)))?;
+    c.set("items, each number in an escape", |c| each_escape(quick, |text| c.text(text, few_calls)))?;
     random_texts(c, quick)
 }
