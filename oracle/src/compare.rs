@@ -197,6 +197,9 @@ pub fn compare(choice: &Choice) -> Result<bool, String> {
     let mut c = Comparison::new(choice)?;
     items::item_texts(&mut c, choice.quick)?;
     grammar::grammar_texts(&mut c, choice.quick)?;
+    if c.texts == 0 {
+        return Err(format!("no set of texts has a name that begins with {:?}", choice.only));
+    }
 
     println!("\nin all: {} texts, {} calls, {:.0} s", c.texts, c.calls, c.begun.elapsed().as_secs_f64());
     let listed = |counts: &[u64]| counts.iter().enumerate().filter(|(_, n)| **n > 0).map(|(i, n)| format!("{i}: {n}")).collect::<Vec<_>>().join(", ");

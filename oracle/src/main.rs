@@ -80,6 +80,7 @@ fn run(words: &[&str]) -> Result<bool, String> {
         ["judge", rest @ ..] => match choice(rest)? {
             choice if choice.replay.is_some() => Err(USAGE.to_string()),
             choice if choice.only.is_empty() => compare::compare(&compare::Choice { only: "grammar".to_string(), ..choice }),
+            choice if !choice.only.starts_with("grammar") => Err("without REPLAY, only sets of the grammar are run".to_string()),
             choice => compare::compare(&choice),
         },
         ["show", entry, text] => show::show(entry, text, "500").map(|()| true),

@@ -12,6 +12,8 @@ use std::panic::{catch_unwind, AssertUnwindSafe};
 
 const ENTRIES: [u8; 4] = [VALUE, CONSTANT, TYPE, SELECTION_SET];
 const DEEPEST: u64 = 500;
+/// A text of so many items is long.
+const LONG: usize = 2000;
 
 /// What a text needs as an entry, with all the depth to be had.
 struct Needs {
@@ -73,22 +75,30 @@ impl Needs {
         calls
     }
 
-    /// Depths, limits and rooms around what is needed, for texts that need more.
+    /// Depths, limits and rooms around what is needed, for texts that need more; one limit and one room of each for long texts.
     fn near_calls(&self, chance: &mut Chance) -> Vec<Call> {
         let ample = self.ample();
         let mut calls = vec![ample];
         for depth in [self.depth.saturating_sub(1), self.depth, self.depth + 1] {
             calls.push(Call { depth, ..ample });
         }
-        let near = |chance: &mut Chance, n: usize| chance.from(n.saturating_sub(1), n + 1);
-        let limit = near(chance, self.items) as u64;
-        calls.push(Call { limit, ..ample });
-        let entries = near(chance, self.items);
-        calls.push(Call { item_bytes: room(chance, entries), ..ample });
-        let entries = near(chance, self.events);
-        calls.push(Call { event_bytes: room(chance, entries), ..ample });
+        for n in self.near(chance, self.items) {
+            calls.push(Call { limit: n as u64, ..ample });
+            calls.push(Call { item_bytes: room(chance, n), ..ample });
+        }
+        for n in self.near(chance, self.events) {
+            calls.push(Call { event_bytes: room(chance, n), ..ample });
+        }
         calls.extend(self.mixed_call(chance));
         calls
+    }
+
+    fn near(&self, chance: &mut Chance, count: usize) -> std::ops::RangeInclusive<usize> {
+        if self.items < LONG {
+            return count.saturating_sub(1)..=count + 1;
+        }
+        let one = chance.from(count.saturating_sub(1), count + 1);
+        one..=one
     }
 
     /// All at once, anywhere from nothing to a little more than is needed.
