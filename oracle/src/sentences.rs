@@ -158,14 +158,14 @@ impl Writer<'_> {
                 closing.push("}");
             }
         }
-        let inside = self.chance.pick(&["1", "a", "[", "{", "$"]);
-        match inside {
-            "[" => self.put("[ ]"),
-            "{" => self.put("{ }"),
-            "$" if !self.constant => self.put("$a"),
-            "$" => self.put("true"),
-            _ => self.put(inside),
-        }
+        let inside: &[&str] = match self.chance.below(5) {
+            0 => &["1"],
+            1 => &["[", "]"],
+            2 => &["{", "}"],
+            3 if !self.constant => &["$", "a"],
+            _ => &["true"],
+        };
+        inside.iter().for_each(|token| self.put(token));
         for token in closing.iter().rev() {
             self.put(token);
         }

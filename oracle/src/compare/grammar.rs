@@ -71,7 +71,7 @@ impl Needs {
         for n in self.events.saturating_sub(2)..=self.events + 1 {
             calls.push(Call { event_bytes: room(chance, n), ..ample });
         }
-        calls.extend(self.mixed_call(chance));
+        calls.push(self.mixed_call(chance));
         calls
     }
 
@@ -89,7 +89,7 @@ impl Needs {
         for n in self.near(chance, self.events) {
             calls.push(Call { event_bytes: room(chance, n), ..ample });
         }
-        calls.extend(self.mixed_call(chance));
+        calls.push(self.mixed_call(chance));
         calls
     }
 
@@ -102,14 +102,14 @@ impl Needs {
     }
 
     /// All at once, anywhere from nothing to a little more than is needed.
-    fn mixed_call(&self, chance: &mut Chance) -> Option<Call> {
+    fn mixed_call(&self, chance: &mut Chance) -> Call {
         let limit = chance.below(2 * self.items + 2) as u64;
         let entries = chance.below(2 * self.items + 2);
         let item_bytes = room(chance, entries);
         let entries = chance.below(self.events + 2);
         let event_bytes = room(chance, entries);
         let depth = if chance.once_in(8) { DEEPEST + 1 + chance.next() % 4 } else { chance.below(self.depth as usize + 2) as u64 };
-        Some(Call { entry: self.entry, limit, depth, item_bytes, event_bytes })
+        Call { entry: self.entry, limit, depth, item_bytes, event_bytes }
     }
 }
 
