@@ -1,7 +1,12 @@
 //! Cases and answers as the program `replay` reads and writes them: crates/replay/src/main.rt says how. All numbers are big-endian.
+use crate::grammar::Entry;
 use std::io::{self, Read};
 
 pub const ITEMS: u8 = 0;
+pub const VALUE: u8 = 1;
+pub const CONSTANT: u8 = 2;
+pub const TYPE: u8 = 3;
+pub const SELECTION_SET: u8 = 4;
 pub const PART: u8 = 5;
 pub const INTERFACE: u8 = 6;
 
@@ -14,10 +19,23 @@ pub struct Call {
     pub entry: u8,
     /// The token limit; of a part, its start.
     pub limit: u64,
-    /// Of the C interface, the entry code; of a part, its length.
+    /// The depth limit; of the C interface, the entry code; of a part, its length.
     pub depth: u64,
     pub item_bytes: usize,
     pub event_bytes: usize,
+}
+
+impl Call {
+    /// The grammar entry that is called; none for the other calls.
+    pub fn grammar(&self) -> Option<Entry> {
+        match self.entry {
+            VALUE => Some(Entry::Value),
+            CONSTANT => Some(Entry::Constant),
+            TYPE => Some(Entry::Type),
+            SELECTION_SET => Some(Entry::SelectionSet),
+            _ => None,
+        }
+    }
 }
 
 fn number(bytes: &[u8]) -> u64 {

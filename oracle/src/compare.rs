@@ -1,24 +1,33 @@
-//! The large comparison: texts without end through the crate's lexer here and through `replay`, and every byte of the answers compared.
-use crate::answers::{read_text, write_answer, write_part, Reading};
-use crate::cases::{write_case, Call, INTERFACE, ITEMS, PART};
+//! The large comparison: texts without end through the crate here and through `replay`, and every byte of the answers compared.
+mod grammar;
+mod items;
+
+use crate::answers::{limit_differs, read_text, write_answer, write_part, Reading};
+use crate::cases::{write_case, Call, PART};
 use crate::chance::Chance;
-use crate::exhaustive::{each_escape, each_scalar, families};
 use crate::findings::{answer_words, class_of, Findings};
 use crate::pipe::Replay;
-use crate::random;
 use std::panic::{catch_unwind, AssertUnwindSafe};
-use std::time::Instant;
+use std::time::{Duration, Instant};
 
 /// The longest text and tape that `replay` takes.
 const MOST_TEXT: usize = 1_048_577;
 const MOST_TAPE: usize = 2_097_152;
+/// How long a finding's text is made smaller.
+const SHRINKING: Duration = Duration::from_secs(5);
+const LIMIT_AT_END: &str = "D-1, the place of a limit that the text's end follows";
 /// A batch is handed over when its cases or answers pass this.
 const BATCH: usize = 1 << 18;
 
 pub struct Choice {
-    pub replay: String,
+    /// The program to compare; without one, the crate's grammar is held against document 01's.
+    pub replay: Option<String>,
     pub quick: bool,
     pub seed: u64,
+    /// The identifiers of the differences that are known.
+    pub rows: Vec<String>,
+    /// The sets of texts whose names begin so are run.
+    pub only: String,
 }
 
 /// Where a call's text and answer stand in a batch.
@@ -29,8 +38,9 @@ struct Mark {
 }
 
 struct Comparison {
-    replay: Replay,
+    replay: Option<Replay>,
     path: String,
+    only: String,
     chance: Chance,
     cases: Vec<u8>,
     expected: Vec<u8>,
@@ -48,8 +58,9 @@ struct Comparison {
 impl Comparison {
     fn new(choice: &Choice) -> Result<Comparison, String> {
         Ok(Comparison {
-            replay: Replay::start(&choice.replay)?,
-            path: choice.replay.clone(),
+            replay: choice.replay.as_deref().map(Replay::start).transpose()?,
+            path: choice.replay.clone().unwrap_or_default(),
+            only: choice.only.clone(),
             chance: Chance::new(choice.seed),
             cases: Vec::new(),
             expected: Vec::new(),
@@ -64,37 +75,19 @@ impl Comparison {
         })
     }
 
-    /// One text with the calls that `choose` gives for its item count (0 if the text is refused).
-    fn text(&mut self, text: &[u8], choose: impl FnOnce(&mut Chance, u64, usize) -> Vec<Call>) -> Result<(), String> {
-        let reading = match catch_unwind(AssertUnwindSafe(|| read_text(text))) {
-            Ok(Ok(reading)) => reading,
-            Ok(Err(words)) => return self.crate_fails(&plain(0), text, "the crate contradicts itself", words),
-            Err(_) => return self.crate_fails(&plain(0), text, "the crate panics", String::new()),
-        };
-        self.texts += 1;
-        for item in reading.items() {
-            self.codes[usize::from(item.code)] += 1;
-        }
-        for call in choose(&mut self.chance, self.texts, reading.items().len()) {
-            self.call(&call, text, &reading)?;
-        }
-        if self.cases.len() > BATCH || self.expected.len() > BATCH {
-            self.flush()?;
-        }
-        Ok(())
-    }
-
     fn crate_fails(&mut self, call: &Call, text: &[u8], class: &str, words: String) -> Result<(), String> {
         self.findings.add(class.to_string(), call, text, words);
         Ok(())
     }
 
     fn call(&mut self, call: &Call, text: &[u8], reading: &Reading) -> Result<(), String> {
-        let answer = self.expected.len();
-        if let Err(words) = write_answer(call, reading, &mut self.expected) {
-            self.expected.truncate(answer);
-            return self.crate_fails(call, text, "the crate's limit", words);
+        match limit_differs(call, reading) {
+            Ok(false) => {}
+            Ok(true) => self.findings.add(LIMIT_AT_END.to_string(), call, text, "the crate reports the length minus 1".to_string()),
+            Err(words) => return self.crate_fails(call, text, "the crate's limit", words),
         }
+        let answer = self.expected.len();
+        write_answer(call, reading, &mut self.expected)?;
         self.numbers[usize::from(self.expected[answer + 7])] += 1;
         self.mark(call, text, answer);
         Ok(())
@@ -109,7 +102,10 @@ impl Comparison {
 
     /// Hands the batch over and compares.
     fn flush(&mut self) -> Result<(), String> {
-        let answers = self.replay.answers(self.cases.clone(), self.expected.len())?;
+        let answers = match &mut self.replay {
+            Some(replay) => replay.answers(self.cases.clone(), self.expected.len())?,
+            None => self.expected.clone(),
+        };
         if answers != self.expected {
             for mark in &self.marks {
                 let text = &self.cases[mark.text.clone()];
@@ -133,8 +129,11 @@ impl Comparison {
         Ok(())
     }
 
-    /// Runs a set of texts and says how many it had.
+    /// Runs a set of texts, if it is chosen, and says how many it had.
     fn set(&mut self, name: &str, run: impl FnOnce(&mut Self) -> Result<(), String>) -> Result<(), String> {
+        if !name.starts_with(&self.only) {
+            return Ok(());
+        }
         let (texts, calls, begun) = (self.texts, self.calls, Instant::now());
         run(self)?;
         self.flush()?;
@@ -142,18 +141,21 @@ impl Comparison {
         Ok(())
     }
 
-    /// Makes each finding's text smaller as long as it stays of its class.
+    /// Makes each finding's text smaller as long as it stays of its class, and puts what was found in words.
     fn shrink(&mut self) {
-        for (class, finding) in &mut self.findings.0 {
+        for (class, finding) in self.findings.0.iter_mut().filter(|(class, _)| *class != LIMIT_AT_END) {
+            if let Some((_, words)) = grammar::again(class, &finding.call, &finding.text) {
+                finding.words = words;
+            }
             let mut size = finding.text.len() / 2;
-            let mut tries = 2000;
-            while size > 0 && tries > 0 {
+            let begun = Instant::now();
+            let go_on = || begun.elapsed() < SHRINKING;
+            while size > 0 && go_on() {
                 let mut at = 0;
-                while at + size <= finding.text.len() && tries > 0 {
-                    tries -= 1;
+                while at + size <= finding.text.len() && go_on() {
                     let mut text = finding.text.clone();
                     text.drain(at..at + size);
-                    match alone(&self.path, &finding.call, &text) {
+                    match grammar::again(class, &finding.call, &text).or_else(|| alone(&self.path, &finding.call, &text)) {
                         Some((found, words)) if found == *class => (finding.text, finding.words) = (text, words),
                         _ => at += size,
                     }
@@ -189,162 +191,15 @@ fn difference(call: &Call, expected: &[u8], given: &[u8]) -> String {
     format!("expected {}\n    given    {}", answer_words(call, expected), answer_words(call, given))
 }
 
-/// No limit, and room for one item more than there are.
-fn plain(count: usize) -> Call {
-    Call { entry: ITEMS, limit: u64::MAX, depth: 0, item_bytes: (8 * (count + 1)).min(MOST_TAPE), event_bytes: 0 }
-}
-
-/// One call, every fourth through the C interface, with bytes to spare that it must not touch; for every eighth text a second one with
-/// a limit and a tape that may be short.
-fn few_calls(chance: &mut Chance, turn: u64, count: usize) -> Vec<Call> {
-    let mut call = plain(count);
-    call.entry = if turn % 4 == 3 { INTERFACE } else { ITEMS };
-    call.item_bytes += (turn % 8) as usize;
-    call.event_bytes = (turn % 3) as usize;
-    let mut calls = vec![call];
-    if turn % 8 == 0 {
-        calls.push(Call { limit: chance.below(count + 2) as u64, item_bytes: chance.below(8 * count + 17), ..call });
-    }
-    calls
-}
-
-/// Limits and rooms around the item count, together and apart, and anywhere below it.
-fn many_calls(chance: &mut Chance, turn: u64, count: usize) -> Vec<Call> {
-    let mut calls = few_calls(chance, turn, count);
-    let ample = plain(count);
-    let room = |chance: &mut Chance, entries: usize| (8 * entries + chance.below(8)).min(MOST_TAPE);
-    for n in count.saturating_sub(2)..=count + 2 {
-        calls.push(Call { limit: n as u64, ..ample });
-        calls.push(Call { item_bytes: room(chance, n), ..ample });
-        calls.push(Call { limit: n as u64, item_bytes: room(chance, n), ..ample });
-    }
-    calls.extend(below_calls(chance, count));
-    calls
-}
-
-/// For long texts: a few of these.
-fn some_calls(chance: &mut Chance, turn: u64, count: usize) -> Vec<Call> {
-    let mut calls = few_calls(chance, turn, count);
-    let near = chance.from(count.saturating_sub(1), count + 1);
-    calls.push(Call { limit: near as u64, ..plain(count) });
-    calls.push(Call { item_bytes: (8 * near).min(MOST_TAPE), ..plain(count) });
-    calls.extend(below_calls(chance, count));
-    for call in &mut calls {
-        call.item_bytes = call.item_bytes.min(MOST_TAPE);
-    }
-    calls
-}
-
-fn below_calls(chance: &mut Chance, count: usize) -> Vec<Call> {
-    let ample = plain(count);
-    let limit = chance.below(count + 1) as u64;
-    let item_bytes = chance.below(8 * count + 8).min(MOST_TAPE);
-    let mut calls = vec![Call { limit, ..ample }, Call { item_bytes, ..ample }, Call { limit, item_bytes, ..ample }];
-    if chance.once_in(8) {
-        let depth = if chance.once_in(2) { chance.from(1, 8) as u64 } else { chance.next() | 1 };
-        calls.push(Call { entry: INTERFACE, limit, depth, item_bytes, event_bytes: chance.below(17) });
-    }
-    calls
-}
-
-/// Parts of small texts: starts and lengths around the end, and where their sum passes 64 bits.
-fn parts(c: &mut Comparison, times: usize) -> Result<(), String> {
-    for _ in 0..times {
-        let text = random::bytes(&mut c.chance, 12);
-        let number = |chance: &mut Chance| match chance.below(4) {
-            0 => (chance.below(6) as u64).wrapping_neg(),
-            1 => (chance.below(6) as u64) << 32 | chance.below(16) as u64,
-            _ => chance.below(text.len() + 3) as u64,
-        };
-        let (limit, depth) = (number(&mut c.chance), number(&mut c.chance));
-        let call = Call { entry: PART, limit, depth, item_bytes: 0, event_bytes: 0 };
-        c.texts += 1;
-        let answer = c.expected.len();
-        write_part(&call, &text, &mut c.expected);
-        c.mark(&call, &text, answer);
-        if c.cases.len() > BATCH {
-            parts_flush(c)?;
-        }
-    }
-    parts_flush(c)
-}
-
-/// An answer's length is not known beforehand if it is wrong: then some are tried alone, the shortest texts first.
-fn parts_flush(c: &mut Comparison) -> Result<(), String> {
-    let answers = Replay::start(&c.path)?.last_answers(c.cases.clone());
-    if answers.as_ref() != Ok(&c.expected) {
-        c.marks.sort_by_key(|mark| mark.text.len());
-        let mut found = 0;
-        for mark in &c.marks {
-            let text = &c.cases[mark.text.clone()];
-            if let Some((class, words)) = alone(&c.path, &mark.call, text) {
-                c.findings.add(class, &mark.call, text, words);
-                found += 1;
-            }
-            if found == 4 {
-                break;
-            }
-        }
-        if found == 0 {
-            return Err("parts differ together, and none alone".to_string());
-        }
-    }
-    c.cases.clear();
-    c.expected.clear();
-    c.marks.clear();
-    Ok(())
-}
-
-fn random_texts(c: &mut Comparison, quick: bool) -> Result<(), String> {
-    let times = |few, many| if quick { few } else { many };
-    c.set("random: soups", |c| {
-        for _ in 0..times(150_000, 1_000_000) {
-            let text = random::soup(&mut c.chance, 40);
-            c.text(&text, many_calls)?;
-        }
-        Ok(())
-    })?;
-    c.set("random: bytes", |c| {
-        for _ in 0..times(150_000, 1_000_000) {
-            let text = random::bytes(&mut c.chance, 12);
-            c.text(&text, many_calls)?;
-        }
-        Ok(())
-    })?;
-    c.set("random: queries, whole and damaged", |c| {
-        for _ in 0..times(8_000, 60_000) {
-            let mut text = random::query(&mut c.chance);
-            c.text(&text, many_calls)?;
-            for _ in 0..3 {
-                random::damage(&mut c.chance, &mut text);
-                c.text(&text, many_calls)?;
-            }
-        }
-        Ok(())
-    })?;
-    c.set("random: long texts", |c| {
-        for i in 0..times(50, 1000) {
-            let size = if i % 10 == 0 { 900_000 } else { c.chance.from(10_000, 150_000) };
-            let mut text = random::long(&mut c.chance, size);
-            text.truncate(MOST_TEXT);
-            c.text(&text, some_calls)?;
-        }
-        Ok(())
-    })?;
-    c.set("random: parts (document 01, not the crate)", |c| parts(c, times(100_000, 500_000)))
-}
-
-/// Runs the whole plan; true if nothing differs.
+/// Runs the whole plan; true if nothing differs but what has a row.
 pub fn compare(choice: &Choice) -> Result<bool, String> {
     println!("seed {}", choice.seed);
     let mut c = Comparison::new(choice)?;
-    for family in families(choice.quick) {
-        let name = format!("{}: up to {} of {} pieces", family.name, family.most(), family.pieces());
-        c.set(&name, |c| family.each(|text| c.text(text, few_calls)))?;
+    items::item_texts(&mut c, choice.quick)?;
+    grammar::grammar_texts(&mut c, choice.quick)?;
+    if c.texts == 0 {
+        return Err(format!("no set of texts has a name that begins with {:?}", choice.only));
     }
-    c.set("each scalar value", |c| each_scalar(choice.quick, |text| c.text(text, few_calls)))?;
-    c.set("each number in an escape", |c| each_escape(choice.quick, |text| c.text(text, few_calls)))?;
-    random_texts(&mut c, choice.quick)?;
 
     println!("\nin all: {} texts, {} calls, {:.0} s", c.texts, c.calls, c.begun.elapsed().as_secs_f64());
     let listed = |counts: &[u64]| counts.iter().enumerate().filter(|(_, n)| **n > 0).map(|(i, n)| format!("{i}: {n}")).collect::<Vec<_>>().join(", ");
@@ -352,11 +207,11 @@ pub fn compare(choice: &Choice) -> Result<bool, String> {
     println!("answers by number: {}", listed(&c.numbers));
     c.shrink();
     c.findings.print();
-    println!("{} classes of difference", c.findings.0.len());
-    let same = c.findings.0.is_empty();
-    let rest = c.replay.last_answers(Vec::new())?;
+    let unknown = c.findings.without_row(&choice.rows);
+    println!("\n{} classes of difference, {unknown} of them without a row", c.findings.0.len());
+    let rest = c.replay.map_or(Ok(Vec::new()), |replay| replay.last_answers(Vec::new()))?;
     if !rest.is_empty() {
         return Err(format!("replay wrote {} bytes after its last answer", rest.len()));
     }
-    Ok(same)
+    Ok(unknown == 0)
 }

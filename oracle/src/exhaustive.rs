@@ -82,7 +82,7 @@ impl Family {
 }
 
 /// The next number of so many digits; false after the last.
-fn advance(digits: &mut [usize], base: usize) -> bool {
+pub fn advance(digits: &mut [usize], base: usize) -> bool {
     for d in digits.iter_mut().rev() {
         *d += 1;
         if *d < base {

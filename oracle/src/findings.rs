@@ -1,7 +1,10 @@
 //! Differences by class, with the smallest case of each.
-use crate::cases::{Call, INTERFACE, PART, UNTOUCHED};
+use crate::cases::{Call, CONSTANT, INTERFACE, PART, SELECTION_SET, TYPE, UNTOUCHED, VALUE};
 use std::collections::BTreeMap;
 use std::fmt::Write;
+
+/// So many bytes of a text are printed.
+const MOST_SHOWN: usize = 500;
 
 pub struct Finding {
     pub times: u64,
@@ -22,17 +25,30 @@ impl Findings {
         }
     }
 
+    /// The classes that have no row. A class with a row begins with the row's identifier, up to a comma.
+    pub fn without_row(&self, rows: &[String]) -> usize {
+        self.0.keys().filter(|class| !rows.iter().any(|row| class.starts_with(&format!("{row},")))).count()
+    }
+
     pub fn print(&self) {
         for (class, finding) in &self.0 {
             println!(
                 "\n{}: {} times. The smallest:\n    {} {}\n    {}",
                 class,
                 finding.times,
-                notation(&finding.text),
+                shown(&finding.text),
                 call_words(&finding.call),
                 finding.words
             );
         }
+    }
+}
+
+/// A text in words, a long one in part: the seed gives it again.
+fn shown(text: &[u8]) -> String {
+    match text.len() {
+        0..=MOST_SHOWN => notation(text),
+        length => format!("{} and so on, {length} bytes in all,", notation(&text[..MOST_SHOWN])),
     }
 }
 
@@ -52,52 +68,74 @@ pub fn class_of(call: &Call, expected: &[u8], given: &[u8]) -> String {
             return if i == 0 { format!("number {e} expected, {g} given") } else { format!("{field}, with number {}", number(expected, 0)) };
         }
     }
-    let count = number(expected, 16) as usize;
-    for at in (0..count).map(|i| 32 + 8 * i) {
-        let (e, g) = (number(expected, at), number(given, at));
-        if e >> 56 != g >> 56 {
-            return format!("item {} expected, {} given", e >> 56, g >> 56);
-        }
-        if e != g {
-            return format!("start or length of item {}", e >> 56);
-        }
-    }
-    "tape bytes past the last entry".to_string()
+    let items = number(expected, 16) as usize;
+    // On 10 the event count is of events needed, and none is on the tape.
+    let events = if number(expected, 0) == 0 { number(expected, 24) as usize } else { 0 };
+    entry_class("item", items, &expected[32..], &given[32..])
+        .or_else(|| entry_class("event", events, &expected[32 + call.item_bytes..], &given[32 + call.item_bytes..]))
+        .unwrap_or("tape bytes past the last entry".to_string())
 }
 
-/// An answer in the notation of cases/items.txt.
+/// In what the first so many entries of two tapes differ.
+fn entry_class(what: &str, count: usize, expected: &[u8], given: &[u8]) -> Option<String> {
+    for at in (0..count).map(|i| 8 * i) {
+        let (e, g) = (number(expected, at), number(given, at));
+        if e >> 56 != g >> 56 {
+            return Some(format!("{what} {} expected, {} given", e >> 56, g >> 56));
+        }
+        if e != g {
+            return Some(format!("start or length of {what} {}", e >> 56));
+        }
+    }
+    None
+}
+
+/// An answer in words: its number, place, counts and entries.
 pub fn answer_words(call: &Call, answer: &[u8]) -> String {
     if call.entry == PART {
         return notation(&answer[8..]);
     }
     let (number_, place, count, events) = (number(answer, 0), number(answer, 8), number(answer, 16), number(answer, 24));
+    let (items_tape, events_tape) = answer[32..].split_at(call.item_bytes);
     let mut words = format!("{number_} {place} {count}");
-    let listed = (count as usize).min(call.item_bytes / 8);
-    for i in 0..listed.min(24) {
-        let entry = number(answer, 32 + 8 * i);
-        let _ = write!(words, "{} {} {} {}", if i == 0 { ":" } else { "," }, entry >> 56, entry >> 28 & 0xFFF_FFFF, entry & 0xFFF_FFFF);
-    }
-    if listed > 24 {
-        words.push_str(", ...");
-    }
+    let mut touched = entry_words(count as usize, items_tape, &mut words);
     if events != 0 {
         let _ = write!(words, " and {events} events");
     }
-    if answer[32 + 8 * listed..].iter().any(|b| *b != UNTOUCHED) {
+    touched |= entry_words(if number_ == 0 { events as usize } else { 0 }, events_tape, &mut words);
+    if touched {
         words.push_str(" and other bytes touched");
     }
     words
 }
 
+/// The first so many entries of a tape, not all if they are many. True if other bytes are touched.
+fn entry_words(count: usize, tape: &[u8], words: &mut String) -> bool {
+    let listed = count.min(tape.len() / 8);
+    for i in 0..listed.min(24) {
+        let entry = number(tape, 8 * i);
+        let _ = write!(words, "{} {} {} {}", if i == 0 { ":" } else { "," }, entry >> 56, entry >> 28 & 0xFFF_FFFF, entry & 0xFFF_FFFF);
+    }
+    if listed > 24 {
+        words.push_str(", ...");
+    }
+    tape[8 * listed..].iter().any(|b| *b != UNTOUCHED)
+}
+
 fn call_words(call: &Call) -> String {
+    let rest = format!("limit {} tape {} events {}", call.limit, call.item_bytes, call.event_bytes);
     match call.entry {
         PART => format!("part {} {}", call.limit, call.depth),
-        INTERFACE => format!("interface {} limit {} tape {} events {}", call.depth, call.limit, call.item_bytes, call.event_bytes),
-        _ => format!("limit {} tape {} events {}", call.limit, call.item_bytes, call.event_bytes),
+        INTERFACE => format!("interface {} {rest}", call.depth),
+        VALUE => format!("as value, depth {} {rest}", call.depth),
+        CONSTANT => format!("as constant, depth {} {rest}", call.depth),
+        TYPE => format!("as type, depth {} {rest}", call.depth),
+        SELECTION_SET => format!("as selection set, depth {} {rest}", call.depth),
+        _ => rest,
     }
 }
 
-/// A text in the notation of cases/items.txt.
+/// A text in the notation of the lists in cases/.
 pub fn notation(text: &[u8]) -> String {
     if text.is_empty() {
         return "empty".to_string();

@@ -38,7 +38,7 @@ fn token_code(kind: TokenKind) -> u8 {
 
 /// Document 01's number of an error, by the crate's message. Two messages hold the character: in double quotes, and in backquotes
 /// with what was expected after it. A `-` at the text's end has the message of an unexpected character, and no other `-` has it.
-fn error_number(message: &str) -> Option<u8> {
+pub fn error_number(message: &str) -> Option<u8> {
     if let Some(rest) = message.strip_prefix("Unexpected character ") {
         let mut chars = rest.chars();
         let open = chars.next()?;
@@ -108,27 +108,28 @@ fn item_of(text: &str, before: &[Item], result: Result<apollo_parser::Token<'_>,
 }
 
 /// The crate under a token limit gives the same items up to it, and then its limit error, whose index is the first unread byte, or
-/// (a departure that document 01 names) one less than the length if that byte is past the text. An `Err` says what it gave instead.
-pub fn limit_agrees(text: &str, items: &[Item], limit: usize) -> Result<(), String> {
+/// (D-1) one less than the length if that byte is past the text. An `Err` says what it gave instead. True: it is D-1.
+pub fn limit_departs(text: &str, items: &[Item], limit: usize) -> Result<bool, String> {
     let mut given = Vec::new();
     for result in Lexer::new(text).with_limit(limit) {
         match result {
             Err(error) if error.is_limit() => {
                 let place = items.get(given.len()).map_or(text.len(), |item| item.start);
-                let reported = if place == text.len() && limit > 0 { place - 1 } else { place };
+                let departs = place == text.len() && limit > 0;
+                let reported = if departs { place - 1 } else { place };
                 if given.len() != limit || limit >= items.len() || given[..] != items[..limit] {
                     return Err(format!("the crate's limit {limit} comes after {} items", given.len()));
                 }
                 if error.index() != reported {
                     return Err(format!("the crate's limit {limit} is at {} and not at {reported}", error.index()));
                 }
-                return Ok(());
+                return Ok(departs);
             }
             other => given.push(item_of(text, &given, other)?),
         }
     }
     if given == items && items.len() <= limit {
-        Ok(())
+        Ok(false)
     } else {
         Err(format!("the crate's limit {limit} is not reported after {} items", given.len()))
     }

@@ -1,19 +1,32 @@
-//! oracle items: answers the cases on standard input, by the crate's lexer and document 01's table.
-//! oracle compare REPLAY [--quick] [--seed N]: holds the program REPLAY against the crate's lexer, on texts made here.
+//! oracle items: answers the cases on standard input, by the crate's lexer and document 01's table and grammar.
+//! oracle compare REPLAY: holds the program REPLAY against the crate and document 01, on texts made here.
+//! oracle judge: holds the crate's grammar against document 01's, on texts made here.
+//! oracle show ENTRY TEXT: what both of these say of a text.
 mod answers;
 mod cases;
 mod chance;
 mod compare;
+mod departures;
 mod exhaustive;
 mod findings;
+mod frames;
+mod grammar;
 mod items;
+mod parser;
 mod pipe;
 mod random;
+mod sentences;
+mod show;
+mod token_strings;
+mod trees;
 
 use std::io::{self, BufReader, BufWriter, Write};
 use std::process::ExitCode;
 
-const USAGE: &str = "usage: oracle items <CASES >ANSWERS\n       oracle compare REPLAY [--quick] [--seed N]";
+const USAGE: &str = "usage: oracle items <CASES >ANSWERS
+       oracle compare REPLAY [--quick] [--seed N] [--rows FILE] [--only SETS]
+       oracle judge [--quick] [--seed N] [--rows FILE] [--only SETS]
+       oracle show value|constant|type|selection TEXT [DEPTH]";
 
 /// Answers each case of the input; an `Err` names the first that has no answer.
 fn answer_all() -> Result<(), String> {
@@ -34,33 +47,53 @@ fn answer_all() -> Result<(), String> {
     output.flush().map_err(|e| e.to_string())
 }
 
+/// The identifiers in the first column of a table of differences: D-1 and so on.
+fn rows(path: &str) -> Result<Vec<String>, String> {
+    let table = std::fs::read_to_string(path).map_err(|e| format!("{path}: {e}"))?;
+    let first = |line: &str| line.strip_prefix("| D-").and_then(|rest| rest.split(' ').next()).map(|n| format!("D-{n}"));
+    Ok(table.lines().filter_map(first).collect())
+}
+
 fn choice(words: &[&str]) -> Result<compare::Choice, String> {
-    let mut choice = compare::Choice { replay: String::new(), quick: false, seed: 1 };
+    let mut choice = compare::Choice { replay: None, quick: false, seed: 1, rows: Vec::new(), only: String::new() };
     let mut words = words.iter();
     while let Some(word) = words.next() {
         match *word {
             "--quick" => choice.quick = true,
             "--seed" => choice.seed = words.next().and_then(|n| n.parse().ok()).ok_or(USAGE)?,
-            path if choice.replay.is_empty() && !path.starts_with("--") => choice.replay = path.to_string(),
+            "--rows" => choice.rows = rows(words.next().ok_or(USAGE)?)?,
+            "--only" => choice.only = words.next().ok_or(USAGE)?.to_string(),
+            path if choice.replay.is_none() && !path.starts_with("--") => choice.replay = Some(path.to_string()),
             _ => return Err(USAGE.to_string()),
         }
-    }
-    if choice.replay.is_empty() {
-        return Err(USAGE.to_string());
     }
     Ok(choice)
 }
 
-/// Exit status: 0 done, and nothing differs; 1 something differs; 2 it could not be found out.
+fn run(words: &[&str]) -> Result<bool, String> {
+    match words {
+        ["items"] => answer_all().map(|()| true),
+        ["compare", rest @ ..] => match choice(rest)? {
+            choice if choice.replay.is_none() => Err(USAGE.to_string()),
+            choice => compare::compare(&choice),
+        },
+        ["judge", rest @ ..] => match choice(rest)? {
+            choice if choice.replay.is_some() => Err(USAGE.to_string()),
+            choice if choice.only.is_empty() => compare::compare(&compare::Choice { only: "grammar".to_string(), ..choice }),
+            choice if !choice.only.starts_with("grammar") => Err("without REPLAY, only sets of the grammar are run".to_string()),
+            choice => compare::compare(&choice),
+        },
+        ["show", entry, text] => show::show(entry, text, "500").map(|()| true),
+        ["show", entry, text, depth] => show::show(entry, text, depth).map(|()| true),
+        _ => Err(USAGE.to_string()),
+    }
+}
+
+/// Exit status: 0 done, and nothing differs but what has a row; 1 something else differs; 2 it could not be found out.
 fn main() -> ExitCode {
     let words: Vec<String> = std::env::args().skip(1).collect();
     let words: Vec<&str> = words.iter().map(String::as_str).collect();
-    let same = match words[..] {
-        ["items"] => answer_all().map(|()| true),
-        ["compare", ref rest @ ..] => choice(rest).and_then(|c| compare::compare(&c)),
-        _ => Err(USAGE.to_string()),
-    };
-    match same {
+    match run(&words) {
         Ok(true) => ExitCode::SUCCESS,
         Ok(false) => ExitCode::FAILURE,
         Err(line) => {

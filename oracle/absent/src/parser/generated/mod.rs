@@ -1,0 +1,2 @@
+//! Stands in for the file of this name: its `mod` line.
+pub mod syntax_kind;

@@ -1,0 +1,21 @@
+//! Stands in for the file of this name: its `mod` lines.
+pub(crate) mod argument;
+pub(crate) mod description;
+pub(crate) mod directive;
+pub(crate) mod document;
+pub(crate) mod enum_;
+pub(crate) mod extensions;
+pub(crate) mod field;
+pub(crate) mod fragment;
+pub(crate) mod input;
+pub(crate) mod interface;
+pub(crate) mod name;
+pub(crate) mod object;
+pub(crate) mod operation;
+pub(crate) mod scalar;
+pub(crate) mod schema;
+pub(crate) mod selection;
+pub(crate) mod ty;
+pub(crate) mod union_;
+pub(crate) mod value;
+pub(crate) mod variable;
