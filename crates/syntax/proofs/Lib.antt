@@ -19,6 +19,7 @@ pub mod Nest
 pub mod Unique
 pub mod OneReading
 pub mod Refusals
+pub mod Dollars
 pub mod TypeRefusals
 pub mod TextTokens
 pub mod Written
