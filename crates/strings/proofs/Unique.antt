@@ -4,8 +4,11 @@ use mathlib.Core.Path.{_≡_, sym, _∙_}
 use mathlib.Core.Bool.{false}
 use mathlib.Core.List.{List}
 use Prim.Native.Nat.{ℕ}
+use Rattle.base.proofs.Results.{Unique}
 use Rattle.strings.specs.declared.StringScan.{StringScan}
 use Rattle.strings.specs.String.{endOf, StringScans}
+use Rattle.strings.proofs.string.Kinds as string-kinds
+use Rattle.strings.proofs.string.Reads as string
 
 -- two answers that agree
 pub record Alike (r q : StringScan) : Type 0 where
@@ -15,7 +18,7 @@ pub record Alike (r q : StringScan) : Type 0 where
   pub end : r .closed ≡ false → endOf (r .state) ≡ endOf (q .state)
 
 -- two scans of the same text that meet the contract agree
-pub one-answer : (kept : ℕ) (t : List ℕ) (r q : StringScan) → StringScans kept t r → StringScans kept t q → Alike r q
+one-answer : (kept : ℕ) (t : List ℕ) (r q : StringScan) → StringScans kept t r → StringScans kept t q → Alike r q
 one-answer kept t r q a b =
     let closed = a .closes ∙ sym (b .closes) in
     let size = a .covers ∙ sym (b .covers) in
@@ -25,3 +28,7 @@ one-answer kept t r q a b =
       fault = a .faults ∙ sym (b .faults);
       end = λ e. a .ends e ∙ rw size (sym (b .ends (sym closed ∙ e)));
     }
+
+-- over the contract itself
+pub string-unique : Unique 1 string-kinds.ps string-kinds.r string.Post (λ κs r q s z. Alike r q)
+string-unique κs a r q s z e f = one-answer _ _ r q e f
