@@ -6,3 +6,4 @@ pub mod Rows
 pub mod Starts
 pub mod Laws
 pub mod Exactly
+pub mod Unique
