@@ -1,7 +1,10 @@
-//! The two sides. Each makes all items of a text, and makes and frees what holds them.
+//! The two sides. Each makes all items of a text, and makes and frees what holds them. Then the same for the UTF-8 test alone.
 use crate::items::items_of;
 use apollo_parser::Lexer;
 use std::hint::black_box;
+
+/// Reads a text and says how much it found.
+pub type Side = fn(&str) -> usize;
 
 /// The crate: a vector of tokens and one of errors. How many there are.
 #[inline(never)]
@@ -17,6 +20,20 @@ pub fn our_read(text: &str) -> usize {
     let (answer, items) = paumelu::read_items(text.as_bytes(), u64::MAX, black_box(&mut tape));
     assert_eq!(answer.number, paumelu::DONE);
     items.len()
+}
+
+/// UTF-8 by Rust's own library. How many bytes are well-formed.
+#[inline(never)]
+pub fn std_utf8(text: &str) -> usize {
+    std::str::from_utf8(black_box(text.as_bytes())).map_or(0, str::len)
+}
+
+/// UTF-8 by ours: with limit 0 the reader tests the text and gives no item.
+#[inline(never)]
+pub fn our_utf8(text: &str) -> usize {
+    let (answer, _) = paumelu::read_items(text.as_bytes(), 0, &mut []);
+    assert_eq!(answer.number, paumelu::LIMIT);
+    text.len()
 }
 
 /// That both do the same work: panics unless they give the same items.

@@ -7,14 +7,17 @@ pub const MIB: usize = 1 << 20;
 pub type Text = fn(usize) -> String;
 
 /// Every text, by the name that the tables have.
-pub const TEXTS: [(&str, Text); 12] = [
+pub const TEXTS: [(&str, Text); 15] = [
     ("mixed", mixed),
     ("names", names),
     ("punctuation", punctuation),
-    ("long_strings", long_strings),
-    ("blanks", blanks),
     ("numbers", numbers),
-    ("chinese_comments", chinese_comments),
+    ("blanks", blanks),
+    ("comments", comments),
+    ("long_strings", long_strings),
+    ("block_strings", block_strings),
+    ("chinese_strings", chinese_strings),
+    ("emoji_strings", emoji_strings),
     ("all_quotes", all_quotes),
     ("all_braces", all_braces),
     ("one_name", one_name),
@@ -109,9 +112,27 @@ pub fn numbers(size: usize) -> String {
     filled(size, |chance| chance.pick(&["0 ", "-17 ", "123456 ", "3.25 ", "-6.0221e+23 ", "1e10 "]).to_string())
 }
 
-/// Three bytes for almost every character.
-pub fn chinese_comments(size: usize) -> String {
-    filled(size, |chance| "#".to_string() + &"读者".repeat(chance.from(1, 40)) + "\n")
+pub fn comments(size: usize) -> String {
+    filled(size, |chance| "# who reads this? ".repeat(chance.from(1, 10)) + "\n")
+}
+
+/// Lines of words, now and then a quote or an escape of three.
+pub fn block_strings(size: usize) -> String {
+    filled(size, |chance| {
+        let lines: Vec<&str> =
+            (0..chance.from(1, 40)).map(|_| chance.pick(&["Once there was a house.\n", "\"No\", it said.\n", "A \\\"\"\" in it.\n"])).collect();
+        ["\"\"\"", &lines.concat(), "\"\"\"\n"].concat()
+    })
+}
+
+/// Three bytes for a character.
+pub fn chinese_strings(size: usize) -> String {
+    filled(size, |chance| ["\"", &"从前有一座房子。".repeat(chance.from(1, 60)), "\" "].concat())
+}
+
+/// Four bytes for a character.
+pub fn emoji_strings(size: usize) -> String {
+    filled(size, |chance| ["\"", &"📖🌙".repeat(chance.from(1, 200)), "\" "].concat())
 }
 
 /// Block strings of six quotes.

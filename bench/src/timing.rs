@@ -1,4 +1,5 @@
 //! Times of two sides, one after the other in turn, so that what else the computer does falls on both.
+use crate::sides::Side;
 use std::hint::black_box;
 use std::time::{Duration, Instant};
 
@@ -27,14 +28,14 @@ fn settle() {
     drop(black_box(vec![0_u8; 64 << 20]));
 }
 
-fn time(side: fn(&str) -> usize, text: &str) -> Duration {
+fn time(side: Side, text: &str) -> Duration {
     settle();
     let start = Instant::now();
     black_box(side(black_box(text)));
     start.elapsed()
 }
 
-pub fn in_turn(sides: [fn(&str) -> usize; 2], text: &str) -> [Times; 2] {
+pub fn in_turn(sides: [Side; 2], text: &str) -> [Times; 2] {
     let mut times = [vec![], vec![]];
     // Once each for nothing: code and memory are then as they will be.
     for side in sides {
