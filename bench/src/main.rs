@@ -1,6 +1,6 @@
 //! bench tables: times our reader beside the crate's `lex`, in this one process.
 //! bench texts: the names of the texts.
-//! bench once SIDE TEXT: reads 1 MiB of a text once, for a counter of instructions. SIDE is crate_lex or our_read.
+//! bench once SIDE TEXT: reads 1 MiB of a text once, for a counter of instructions. SIDE is crate_lex, our_read or our_utf8.
 mod sides;
 mod tables;
 mod texts;
@@ -22,6 +22,7 @@ fn once(side: &str, name: &str) -> Option<()> {
     match side {
         "crate_lex" => sides::crate_lex(&text),
         "our_read" => sides::our_read(&text),
+        "our_utf8" => sides::our_utf8(&text),
         _ => return None,
     };
     Some(())
