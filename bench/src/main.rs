@@ -1,6 +1,7 @@
 //! bench tables: times our reader beside the crate's `lex`, in this one process.
 //! bench texts: the names of the texts.
 //! bench once SIDE TEXT: reads 1 MiB of a text once, for a counter of instructions. SIDE is crate_lex, our_read or our_utf8.
+mod processor;
 mod sides;
 mod tables;
 mod texts;
