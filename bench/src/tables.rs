@@ -70,7 +70,7 @@ pub fn print_all() {
     items("all_braces, 16 MiB", texts::all_braces, 16 * MIB);
     items("one_name, 16 MiB", texts::one_name, 16 * MIB);
     items("one_string, 16 MiB", texts::one_string, 16 * MIB);
-    // The crate's errors hold two strings each: 16 MiB of them would be some gigabytes.
+    // The crate's errors hold two strings each: 16 MiB of them would take some 2 GB.
     items("all_errors, 4 MiB", texts::all_errors, 4 * MIB);
 
     heading("UTF-8 alone", "4 MiB", "Rust's `from_utf8`");
