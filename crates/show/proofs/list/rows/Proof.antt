@@ -1,0 +1,70 @@
+-- `show::list::rows` is safe and ends. Assumes nothing.
+use Prim.Native.Nat.{_≤_, _-_}
+use borrow.Author.Needs.{needs}
+use Rattle.show.proofs.list.rows.Statement.{statement}
+use Rattle.show.proofs.list.rows.Tie as tie
+
+abbrev Inv-loop : tie.InvT-loop
+Inv-loop asked errors-only text tape count offset given out₀ width walk₀ i₀ out walk i = i ≤ count
+
+abbrev μ-loop : tie.MeasureT-loop
+μ-loop asked errors-only text tape count offset given out₀ width walk₀ i₀ out walk i = count - i
+
+sum-requires : tie.Need-sum-requires Inv-loop μ-loop
+sum-requires c κs = search needs
+
+digits-requires : tie.Need-digits-requires Inv-loop μ-loop
+digits-requires c κs = search needs
+
+loop-holds : tie.Need-loop-holds Inv-loop μ-loop
+loop-holds c = search needs
+
+entry-at-requires : tie.Need-entry-at-requires Inv-loop μ-loop
+entry-at-requires c κs = search needs
+
+moved-requires : tie.Need-moved-requires Inv-loop μ-loop
+moved-requires c κs = search needs
+
+error-row-requires : tie.Need-error-row-requires Inv-loop μ-loop
+error-row-requires c κs = search needs
+
+add-sum : tie.Need-add-sum Inv-loop μ-loop
+add-sum c = search needs
+
+sum-requires-2 : tie.Need-sum-requires-2 Inv-loop μ-loop
+sum-requires-2 c κs = search needs
+
+row-requires : tie.Need-row-requires Inv-loop μ-loop
+row-requires c κs = search needs
+
+add-i : tie.Need-add-i Inv-loop μ-loop
+add-i c = search needs
+
+loop-less : tie.Need-loop-less Inv-loop μ-loop
+loop-less c = search needs
+
+loop-again : tie.Need-loop-again Inv-loop μ-loop
+loop-again c = search needs
+
+returns : tie.Need-returns Inv-loop μ-loop
+returns c = search needs
+
+pub rows-spec : {M : Type 1} → statement M
+rows-spec =
+    tie.close
+    (tie.spec
+    Inv-loop
+    μ-loop
+    sum-requires
+    digits-requires
+    loop-holds
+    entry-at-requires
+    moved-requires
+    error-row-requires
+    add-sum
+    sum-requires-2
+    row-requires
+    add-i
+    loop-less
+    loop-again
+    returns)

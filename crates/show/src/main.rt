@@ -1,0 +1,277 @@
+// The program behind the script `paumelu`: it reads standard input with the proved reader and prints what is asked (`asked.rt`).
+//
+// The script needs to know how the run ended, and a program has no exit status: so the last thing that it writes is a digit on descriptor 3, where it
+// is told to. 0: all was read; 1: there was a refusal or an error item; 2: the text was not read; 3: a part whose span passes the text's end.
+mod asked;
+mod characters;
+mod events;
+mod input;
+mod lines;
+mod list;
+mod names;
+mod output;
+mod page;
+mod report;
+
+use asked::Asked;
+use libc::STDERR_FILENO;
+use libc::STDOUT_FILENO;
+use list::Pass;
+use list::Walk;
+
+fn tell(asked: Asked, status: u8) {
+    if asked.tells {
+        io::write_all(3, &[status]);
+    }
+}
+
+// One clear line on standard error, and the run ends.
+fn complain(asked: Asked, line: &[u8]) {
+    io::write_all(STDERR_FILENO, line);
+    tell(asked, b'2');
+}
+
+// Writes what is left in the buffer, and tells how the run ended.
+fn finish(asked: Asked, refused: bool, at: usize, out: &mut [u8; 65536]) {
+    if !output::flush(out, at) {
+        complain(asked, b"paumelu: the output cannot be written\n");
+        return;
+    }
+    if refused {
+        tell(asked, b'1');
+        return;
+    }
+    tell(asked, b'0');
+}
+
+// After the list come the error items with their lines.
+fn list_errors(
+    asked: Asked,
+    text: &[u8],
+    tape: &mut [u8],
+    listed: Walk,
+    out: &mut [u8; 65536],
+) -> usize {
+    if listed.errors == 0 {
+        return listed.at;
+    }
+    let at = output::put(out, listed.at, b'\n');
+    let pass = list::go_through(asked, true, text, tape, Pass::new(at), out);
+    let walk = pass.walk;
+    walk.at
+}
+
+fn list_items(asked: Asked, text: &[u8], tape: &mut [u8], out: &mut [u8; 65536]) {
+    let pass = list::go_through(asked, false, text, tape, Pass::new(0), out);
+    let walk = pass.walk;
+    let at = list_errors(asked, text, tape, walk, out);
+    if pass.number == 0 {
+        finish(asked, walk.errors != 0, at, out);
+        return;
+    }
+    let at = report::put_report(out, at, asked.colour, text, pass.number, pass.place, 0);
+    finish(asked, true, at, out);
+}
+
+fn list_events(
+    asked: Asked,
+    text: &[u8],
+    items: &mut [u8],
+    tape: &mut [u8],
+    out: &mut [u8; 65536],
+) {
+    let a = events::read(asked, text, items, tape);
+    if a.number == 0 {
+        let at = events::rows(asked, text, tape, a.events, out);
+        finish(asked, false, at, out);
+        return;
+    }
+    let error = events::first_error(items, a.items);
+    let at = report::put_report(out, 0, asked.colour, text, a.number, a.place, error);
+    finish(asked, true, at, out);
+}
+
+// A page is made of any text that the reader takes. Where it takes none, the page says why.
+fn make_page(asked: Asked, text: &[u8], items: &mut [u8], tape: &mut [u8], out: &mut [u8; 65536]) {
+    let a = events::read(asked, text, items, tape);
+    let at = page::put_page(out, 0, text, items, tape, a);
+    finish(asked, page::is_cut(a.number), at, out);
+}
+
+fn write_part(asked: Asked, text: &[u8]) {
+    let part = paumelu::part(text, asked.limit, asked.depth);
+    if !io::write_all(STDOUT_FILENO, part) {
+        complain(asked, b"paumelu: the output cannot be written\n");
+        return;
+    }
+    if part.len() == asked.depth {
+        tell(asked, b'0');
+        return;
+    }
+    tell(asked, b'3');
+}
+
+// Answers on a text that is read whole.
+fn answer(asked: Asked, text: &[u8], items: &mut [u8], events: &mut [u8], out: &mut [u8; 65536]) {
+    if asked.entry == b'0' {
+        list_items(asked, text, items, out);
+        return;
+    }
+    if asked.entry == b'5' {
+        write_part(asked, text);
+        return;
+    }
+    if asked.entry == b'6' {
+        make_page(asked, text, items, events, out);
+        return;
+    }
+    list_events(asked, text, items, events, out);
+}
+
+// Does the entry take a text of up to 16,777,216 bytes? The others need both tapes whole.
+fn takes_large(entry: u8) -> bool {
+    if entry == b'0' {
+        return true;
+    }
+    entry == b'5'
+}
+
+// A text that did not fit the small buffers: its start is lent, and the rest is still to be read.
+fn read_large(
+    asked: Asked,
+    head: &[u8],
+    text: &mut [u8],
+    items: &mut [u8],
+    events: &mut [u8],
+    out: &mut [u8; 65536],
+) {
+    input::copy(head, text);
+    let n = input::read_text(text, head.len());
+    if n == input::FAILED {
+        complain(asked, b"paumelu: the text cannot be read\n");
+        return;
+    }
+    if n < text.len() {
+        answer(asked, paumelu::part(text, 0, n), items, events, out);
+        return;
+    }
+    // the text is longer than the buffer, or as long: the reader refuses it with 2
+    if asked.entry == b'0' {
+        answer(asked, text, items, events, out);
+        return;
+    }
+    if asked.entry == b'5' {
+        complain(
+            asked,
+            b"paumelu: a part is taken of a text of up to 16,777,216 bytes\n",
+        );
+        return;
+    }
+    complain(
+        asked,
+        b"paumelu: only items and part take a text of over 1,048,576 bytes\n",
+    );
+}
+
+fn lend_items(
+    asked: Asked,
+    head: &[u8],
+    text: &mut [u8; 16777217],
+    items: &mut [u8; 8388608],
+    out: &mut [u8; 65536],
+) {
+    let mut events = [0u8; 8];
+    read_large(asked, head, text, items, &mut events, out);
+}
+
+// Texts of up to 16,777,216 bytes.
+fn go_items(asked: Asked, head: &[u8], out: &mut [u8; 65536]) {
+    let mut text = [0u8; 16777217];
+    let mut items = [0u8; 8388608];
+    lend_items(asked, head, &mut text, &mut items, out);
+}
+
+fn lend_events(
+    asked: Asked,
+    head: &[u8],
+    text: &mut [u8; 1048577],
+    items: &mut [u8; 8388616],
+    events: &mut [u8; 41943040],
+    out: &mut [u8; 65536],
+) {
+    read_large(asked, head, text, items, events, out);
+}
+
+// Texts of up to 1,048,576 bytes: eight bytes of item tape and forty of event tape for each byte of the text.
+fn go_events(asked: Asked, head: &[u8], out: &mut [u8; 65536]) {
+    let mut text = [0u8; 1048577];
+    let mut items = [0u8; 8388616];
+    let mut events = [0u8; 41943040];
+    lend_events(asked, head, &mut text, &mut items, &mut events, out);
+}
+
+// The compiler keeps this a function with a frame of its own, since it is called in two places: so a run on a short text needs little stack.
+fn go_large(asked: Asked, head: &[u8], out: &mut [u8; 65536]) {
+    if !asked.roomy {
+        complain(
+            asked,
+            b"paumelu: the stack has no room for a text of over 65,536 bytes\n",
+        );
+        return;
+    }
+    if takes_large(asked.entry) {
+        go_items(asked, head, out);
+        return;
+    }
+    go_events(asked, head, out);
+}
+
+fn read_small(
+    asked: Asked,
+    text: &mut [u8],
+    items: &mut [u8],
+    events: &mut [u8],
+    out: &mut [u8; 65536],
+) {
+    let n = input::read_text(text, 0);
+    if n == input::FAILED {
+        complain(asked, b"paumelu: the text cannot be read\n");
+        return;
+    }
+    if n < text.len() {
+        answer(asked, paumelu::part(text, 0, n), items, events, out);
+        return;
+    }
+    go_large(asked, text, out);
+}
+
+fn lend_small(
+    asked: Asked,
+    text: &mut [u8; 65537],
+    items: &mut [u8; 524304],
+    events: &mut [u8; 2621440],
+    out: &mut [u8; 65536],
+) {
+    read_small(asked, text, items, events, out);
+}
+
+// Texts of up to 65,536 bytes, and the start of longer ones.
+fn go_small(asked: Asked, out: &mut [u8; 65536]) {
+    let mut text = [0u8; 65537];
+    let mut items = [0u8; 524304];
+    let mut events = [0u8; 2621440];
+    lend_small(asked, &mut text, &mut items, &mut events, out);
+}
+
+fn go(asked: Asked, out: &mut [u8; 65536]) {
+    if asked.long {
+        go_large(asked, b"", out);
+        return;
+    }
+    go_small(asked, out);
+}
+
+fn main() {
+    let mut out = [0u8; 65536];
+    go(asked::arguments(), &mut out);
+}
