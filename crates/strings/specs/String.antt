@@ -6,8 +6,9 @@ use mathlib.Core.Bool.{Bool, true, false, not, _&&_}
 use mathlib.Core.List.{List, [], _∷_}
 use lib.Dec.{eqb, ltb}
 use Rattle.base.specs.Text.{pick}
+use Rattle.base.specs.Run.{run}
 use Rattle.utf8.specs.Encode.{scalar}
-use Rattle.rules.specs.Classes.{lineEnd, escapedCharacter, hexDigit, withDigit, leadSurrogate, trailSurrogate}
+use Rattle.rules.specs.Classes.{lineEnd, escapedCharacter, plainCharacter, hexDigit, withDigit, leadSurrogate, trailSurrogate}
 use Rattle.rules.specs.Faults.{blockScan, stringScan}
 use Rattle.rules.specs.StringAt.{last}
 use Rattle.strings.specs.declared.StringState.{StringState}
@@ -114,6 +115,17 @@ quotedBy (Close fault) s kept k = record { closed = true; size = 1; fault = late
 unfoldable pub quotedFrom : StringState → ℕ → List ℕ → StringScan
 quotedFrom s kept [] = record { closed = false; size = 0; fault = kept; state = s }
 quotedFrom s kept (b ∷ t) = quotedBy (stringStep s b) s kept (λ next fault. quotedFrom next fault t)
+
+-- how many bytes at the front leave a string in the state as it is, by being plain
+unfoldable pub plainRun : StringState → List ℕ → ℕ
+plainRun StringLiteralStart t = 0
+plainRun StringLiteral t = run plainCharacter t
+plainRun StringLiteralBackslash t = 0
+plainRun (StringLiteralEscapedUnicode r v p) t = 0
+plainRun (StringLiteralEscapedUnicodeVariable v d) t = 0
+plainRun StringLiteralLeadSurrogate t = 0
+plainRun StringLiteralLeadSurrogateBackslash t = 0
+plainRun BlockStringLiteral t = 0
 
 -- a block string: it has no faults of its own
 unfoldable pub blockOf : ℕ → List ℕ → StringScan

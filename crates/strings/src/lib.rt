@@ -1,12 +1,13 @@
 // StringValue: the crate's states of a quoted string, one step for each byte, and block strings.
 ghost use mathlib.Core.Path.{_≡_};
 ghost use mathlib.Core.Bool.{true};
-ghost use Prim.Native.Nat.{_<_, _≤_};
+ghost use Prim.Native.Nat.{_+_, _<_, _≤_};
 ghost use lib.ListN.{length, drop};
+ghost use Rattle.base.specs.Run.{run};
 ghost use Rattle.utf8.specs.Encode.{scalar};
-ghost use Rattle.rules.specs.Classes.{lineEnd, escapedCharacter, hexDigit, hexValue, leadSurrogate, trailSurrogate};
+ghost use Rattle.rules.specs.Classes.{lineEnd, escapedCharacter, plainCharacter, hexDigit, hexValue, leadSurrogate, trailSurrogate};
 ghost use Rattle.rules.specs.Faults.{quotes, escaped};
-ghost use Rattle.strings.specs.String.{capped, inText, startStep, backslashStep, noDigit, wholeUnicode, unicodeStep, variableStep, leadStep, leadBackslashStep, stringStep, laterOf, further, begun, quotedFrom, blockOf, StringScans};
+ghost use Rattle.strings.specs.String.{capped, inText, startStep, backslashStep, noDigit, wholeUnicode, unicodeStep, variableStep, leadStep, leadBackslashStep, stringStep, laterOf, further, begun, quotedFrom, plainRun, blockOf, StringScans};
 
 // In which state a string is.
 pub enum StringState {
@@ -396,6 +397,45 @@ fn later(kept: u8, fault: u8) -> u8
     if fault == 0 { kept } else { fault }
 }
 
+// A byte that stands for itself in a quoted string: no quote, no backslash, no line end.
+fn is_plain(b: u8) -> bool
+    ensures { λ r. ⌜ r ≡ plainCharacter b ⌝ }
+{
+    if b == b'"' {
+        return false;
+    }
+    if b == b'\\' {
+        return false;
+    }
+    !is_line_terminator(b)
+}
+
+// Where the plain bytes from i on end. Most bytes of a string are plain, and this loop does nothing else.
+fn plain_end(s: &[u8], i: usize) -> usize
+    requires { ⌜ i ≤ length (now s) ⌝ }
+    ensures { λ r. ⌜ r ≡ i + run plainCharacter (drop i (now (s .entry))) ⌝ }
+{
+    let mut j = i;
+    while j < s.len() {
+        if !is_plain(s[j]) {
+            return j;
+        }
+        j += 1;
+    }
+    j
+}
+
+// Where the next step is due: in plain text only past the plain bytes, else at i.
+fn step_at(state: StringState, s: &[u8], i: usize) -> usize
+    requires { ⌜ i ≤ length (now s) ⌝ }
+    ensures { λ r. ⌜ r ≡ i + plainRun state (drop i (now (s .entry))) ⌝ }
+{
+    match state {
+        StringState::StringLiteral => plain_end(s, i),
+        _ => i,
+    }
+}
+
 // A quoted string: the first byte is its opening quote.
 fn string_literal(rest: &[u8], kept: u8) -> StringScan
     requires { ⌜ 0 < length (now rest) ⌝ }
@@ -409,7 +449,7 @@ fn string_literal(rest: &[u8], kept: u8) -> StringScan
             StringStep::Go { state: next, fault } => {
                 state = next;
                 err = later(err, fault);
-                i += 1;
+                i = step_at(next, rest, i + 1);
             }
             StringStep::Close { fault } => {
                 return StringScan {

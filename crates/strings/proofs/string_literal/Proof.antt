@@ -1,11 +1,13 @@
 -- `strings::string_literal` meets its contract. The invariant: the string is that which is read on from the state at i, i bytes further on.
 -- Assumes nothing.
 use mathlib.Core.Path.{_≡_, refl, sym, _∙_}
-use Prim.Native.Nat.{_-_, _≤_}
+use Prim.Native.Nat.{_+_, _-_, _≤_}
+use native.Mathlib.Omega.{arith}
 use lib.ListN.{length, drop}
 use borrow.Author.Needs.{needs}
-use Rattle.strings.specs.String.{further, begun, quotedFrom}
+use Rattle.strings.specs.String.{laterOf, further, begun, quotedFrom}
 use Rattle.strings.proofs.Quoted.{quoted-goes, quoted-closes, quoted-ends}
+use Rattle.strings.proofs.Plain.{plain-passes, plain-within}
 use Rattle.strings.proofs.string_literal.Statement.{statement}
 use Rattle.strings.proofs.string_literal.Tie as tie
 
@@ -31,28 +33,42 @@ enum-known-next c = search needs
 later-requires : tie.Need-later-requires Inv-loop μ-loop
 later-requires c κs = search needs
 
-add-i : tie.Need-add-i Inv-loop μ-loop
-add-i c = search needs
+add-step-at : tie.Need-add-step-at Inv-loop μ-loop
+add-step-at c = search needs
+
+step-at-requires : tie.Need-step-at-requires Inv-loop μ-loop
+step-at-requires c κs = search needs
+
+-- the next step is due within the text
+within : (c : tie.After-step-at Inv-loop μ-loop) →
+    c .step-at .result ≤ length (c .before .before .before .before .before .before .before .before .before .before .args .rest .now)
+within c =
+    let at-next = c .before .before .before in
+    let at-test = at-next .before .before .before .before in
+    let at-loop = at-test .before in
+    let a = at-loop .before .before .args in
+    rw (c .step-at .ensures) (plain-within (at-next .next .given .0 .0) (at-loop .loop .i + 1) (a .rest .now) (omega arith))
 
 loop-less : tie.Need-loop-less Inv-loop μ-loop
-loop-less c = search needs
+loop-less c = omega (arith, within c, c .step-at .ensures)
 
 loop-again : tie.Need-loop-again Inv-loop μ-loop
 loop-again c =
-    let at-next = c .before .before in
+    let at-next = c .before .before .before in
     let at-step = at-next .before .before in
     let at-test = at-step .before .before in
     let at-loop = at-test .before in
     let a = at-loop .before .before .args in
     let v = at-next .next .given in
     let goes = quoted-goes (at-loop .loop .state) (at-loop .loop .err) (at-loop .loop .i) (a .rest .now) (v .0 .0) (v .0 .1 .0) (at-test .loop-test .taken) (sym (at-step .string-step .ensures) ∙ v .1) in
-    (search needs, at-loop .loop .inv .1 ∙ goes ∙ rw (c .later .ensures))
+    let passes = plain-passes (v .0 .0) (laterOf (at-loop .loop .err) (v .0 .1 .0)) (at-loop .loop .i + 1) (a .rest .now) in
+    (within c, at-loop .loop .inv .1 ∙ goes ∙ passes ∙ rw (c .before .later .ensures, c .step-at .ensures))
 
 enum-known-fault : tie.Need-enum-known-fault Inv-loop μ-loop
 enum-known-fault c = search needs
 
-add-t14 : tie.Need-add-t14 Inv-loop μ-loop
-add-t14 c = search needs
+add-t15 : tie.Need-add-t15 Inv-loop μ-loop
+add-t15 c = search needs
 
 later-requires-2 : tie.Need-later-requires-2 Inv-loop μ-loop
 later-requires-2 c κs = search needs
@@ -85,11 +101,12 @@ string-literal-spec =
     string-step-requires
     enum-known-next
     later-requires
-    add-i
+    add-step-at
+    step-at-requires
     loop-less
     loop-again
     enum-known-fault
-    add-t14
+    add-t15
     later-requires-2
     returns
     returns-2)
