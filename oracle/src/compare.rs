@@ -22,6 +22,8 @@ const BATCH: usize = 1 << 18;
 pub struct Choice {
     /// The program to compare; without one, the crate's grammar is held against document 01's.
     pub replay: Option<String>,
+    /// A program that links the library, for the largest texts.
+    pub host: Option<String>,
     pub quick: bool,
     pub seed: u64,
     /// The identifiers of the differences that are known.

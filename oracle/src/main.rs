@@ -1,5 +1,6 @@
 //! oracle items: answers the cases on standard input, by the crate's lexer and document 01's table and grammar.
-//! oracle compare REPLAY: holds the program REPLAY against the crate and document 01, on texts made here.
+//! oracle compare REPLAY: holds the program REPLAY against the crate and document 01, on texts made here; with --host HOST also the program
+//! HOST, which links the library, on texts too long for REPLAY.
 //! oracle judge: holds the crate's grammar against document 01's, on texts made here.
 //! oracle show ENTRY TEXT: what both of these say of a text.
 mod answers;
@@ -12,6 +13,7 @@ mod findings;
 mod frames;
 mod grammar;
 mod items;
+mod large;
 mod parser;
 mod pipe;
 mod random;
@@ -24,7 +26,7 @@ use std::io::{self, BufReader, BufWriter, Write};
 use std::process::ExitCode;
 
 const USAGE: &str = "usage: oracle items <CASES >ANSWERS
-       oracle compare REPLAY [--quick] [--seed N] [--rows FILE] [--only SETS]
+       oracle compare [REPLAY] [--host HOST] [--quick] [--seed N] [--rows FILE] [--only SETS]
        oracle judge [--quick] [--seed N] [--rows FILE] [--only SETS]
        oracle show value|constant|type|selection TEXT [DEPTH]";
 
@@ -55,13 +57,14 @@ fn rows(path: &str) -> Result<Vec<String>, String> {
 }
 
 fn choice(words: &[&str]) -> Result<compare::Choice, String> {
-    let mut choice = compare::Choice { replay: None, quick: false, seed: 1, rows: Vec::new(), only: String::new() };
+    let mut choice = compare::Choice { replay: None, host: None, quick: false, seed: 1, rows: Vec::new(), only: String::new() };
     let mut words = words.iter();
     while let Some(word) = words.next() {
         match *word {
             "--quick" => choice.quick = true,
             "--seed" => choice.seed = words.next().and_then(|n| n.parse().ok()).ok_or(USAGE)?,
             "--rows" => choice.rows = rows(words.next().ok_or(USAGE)?)?,
+            "--host" => choice.host = Some(words.next().ok_or(USAGE)?.to_string()),
             "--only" => choice.only = words.next().ok_or(USAGE)?.to_string(),
             path if choice.replay.is_none() && !path.starts_with("--") => choice.replay = Some(path.to_string()),
             _ => return Err(USAGE.to_string()),
@@ -73,10 +76,15 @@ fn choice(words: &[&str]) -> Result<compare::Choice, String> {
 fn run(words: &[&str]) -> Result<bool, String> {
     match words {
         ["items"] => answer_all().map(|()| true),
-        ["compare", rest @ ..] => match choice(rest)? {
-            choice if choice.replay.is_none() => Err(USAGE.to_string()),
-            choice => compare::compare(&choice),
-        },
+        ["compare", rest @ ..] => {
+            let choice = choice(rest)?;
+            if choice.replay.is_none() && choice.host.is_none() {
+                return Err(USAGE.to_string());
+            }
+            let large = choice.host.as_deref().map_or(Ok(true), |host| large::compare(host, choice.seed))?;
+            let replayed = choice.replay.is_none() || compare::compare(&choice)?;
+            Ok(large && replayed)
+        }
         ["judge", rest @ ..] => match choice(rest)? {
             choice if choice.replay.is_some() => Err(USAGE.to_string()),
             choice if choice.only.is_empty() => compare::compare(&compare::Choice { only: "grammar".to_string(), ..choice }),
