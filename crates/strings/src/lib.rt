@@ -1,4 +1,4 @@
-// StringValue: the crate's states of a quoted string, one step for each byte, and block strings.
+// StringValue: the crate's states of a quoted string, one step for each byte that is not in a run of plain text, and block strings.
 ghost use mathlib.Core.Path.{_≡_};
 ghost use mathlib.Core.Bool.{true};
 ghost use Prim.Native.Nat.{_+_, _<_, _≤_};

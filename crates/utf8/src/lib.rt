@@ -2,9 +2,11 @@
 use base::byte_at;
 use base::within;
 ghost use mathlib.Core.Path.{_≡_};
-ghost use Prim.Native.Nat.{_<_};
-ghost use Rattle.utf8.specs.Utf8.{tail};
-ghost use Rattle.utf8.specs.Sequence.{three, four, sequenceBy, sequence, valueBy, wellFormed, width, size};
+ghost use mathlib.Core.Bool.{_&&_};
+ghost use Prim.Native.Nat.{_<_, _≤_};
+ghost use lib.ListN.{length};
+ghost use Rattle.utf8.specs.Utf8.{ascii, tail};
+ghost use Rattle.utf8.specs.Sequence.{three, four, sequenceBy, sequence, valueBy, wellFormed, Passes, width, size};
 ghost use Rattle.utf8.specs.Answers.{characterOf, checkedOf};
 
 // What stands at the front of a slice. A refusal carries document 01's number, which every reader above passes on.
@@ -145,6 +147,87 @@ pub fn decode(s: &[u8]) -> Character
     }
 }
 
+// Eight bytes at once: they are read before the first is tested, so that one test of the processor can do for all.
+fn all_ascii(a: u8, b: u8, c: u8, d: u8, e: u8, f: u8, g: u8, h: u8) -> bool
+    ensures { λ r. ⌜ r ≡ ascii a && (ascii b && (ascii c && (ascii d && (ascii e && (ascii f && (ascii g && ascii h)))))) ⌝ }
+{
+    if a >= 0x80 {
+        return false;
+    }
+    if b >= 0x80 {
+        return false;
+    }
+    if c >= 0x80 {
+        return false;
+    }
+    if d >= 0x80 {
+        return false;
+    }
+    if e >= 0x80 {
+        return false;
+    }
+    if f >= 0x80 {
+        return false;
+    }
+    if g >= 0x80 {
+        return false;
+    }
+    if h >= 0x80 {
+        return false;
+    }
+    true
+}
+
+// From i on, past ASCII by eight bytes.
+fn ascii_eights(text: &[u8], i: usize) -> usize
+    requires { ⌜ i ≤ length (now text) ⌝ }
+    ensures { λ r. ⌜ Passes (now (text .entry)) i r ⌝ }
+{
+    let mut j = i;
+    while text.len() - j >= 8 {
+        if !all_ascii(
+            text[j],
+            text[j + 1],
+            text[j + 2],
+            text[j + 3],
+            text[j + 4],
+            text[j + 5],
+            text[j + 6],
+            text[j + 7],
+        ) {
+            return j;
+        }
+        j += 8;
+    }
+    j
+}
+
+// From i on, past ASCII by single bytes.
+fn ascii_ones(text: &[u8], i: usize) -> usize
+    requires { ⌜ i ≤ length (now text) ⌝ }
+    ensures { λ r. ⌜ Passes (now (text .entry)) i r ⌝ }
+{
+    let mut j = i;
+    while j < text.len() {
+        if text[j] >= 0x80 {
+            return j;
+        }
+        j += 1;
+    }
+    j
+}
+
+// Where the next sequence is to be told, if the last had n bytes: after ASCII mostly more of it follows.
+fn next_at(text: &[u8], i: usize, n: usize) -> usize
+    requires { ⌜ i ≤ length (now text) ⌝ }
+    ensures { λ r. ⌜ Passes (now (text .entry)) i r ⌝ }
+{
+    if n != 1 {
+        return i;
+    }
+    ascii_ones(text, ascii_eights(text, i))
+}
+
 // How many bytes are passed, sequence after sequence, before the first byte where no well-formed one begins.
 pub fn valid_up_to(text: &[u8]) -> usize
     ensures { λ r. ⌜ r ≡ wellFormed (now (text .entry)) ⌝ }
@@ -156,6 +239,7 @@ pub fn valid_up_to(text: &[u8]) -> usize
             return i;
         }
         i += n;
+        i = next_at(text, i, n);
     }
 }
 
