@@ -212,18 +212,23 @@ fn go_events(asked: Asked, head: &[u8], out: &mut [u8; 65536]) {
 
 // The compiler keeps this a function with a frame of its own, since it is called in two places: so a run on a short text needs little stack.
 fn go_large(asked: Asked, head: &[u8], out: &mut [u8; 65536]) {
-    if !asked.roomy {
-        complain(
-            asked,
-            b"paumelu: the stack has no room for a text of over 65,536 bytes\n",
-        );
-        return;
-    }
     if takes_large(asked.entry) {
         go_items(asked, head, out);
         return;
     }
     go_events(asked, head, out);
+}
+
+// A long text is not begun where the stack has no room for it.
+fn lacks_room(asked: Asked) -> bool {
+    if asked.roomy {
+        return false;
+    }
+    complain(
+        asked,
+        b"paumelu: the stack has no room for a text of over 65,536 bytes (ulimit -s)\n",
+    );
+    true
 }
 
 fn read_small(
@@ -242,7 +247,9 @@ fn read_small(
         answer(asked, paumelu::part(text, 0, n), items, events, out);
         return;
     }
-    go_large(asked, text, out);
+    if !lacks_room(asked) {
+        go_large(asked, text, out);
+    }
 }
 
 fn lend_small(
@@ -264,11 +271,13 @@ fn go_small(asked: Asked, out: &mut [u8; 65536]) {
 }
 
 fn go(asked: Asked, out: &mut [u8; 65536]) {
-    if asked.long {
-        go_large(asked, b"", out);
+    if !asked.long {
+        go_small(asked, out);
         return;
     }
-    go_small(asked, out);
+    if !lacks_room(asked) {
+        go_large(asked, b"", out);
+    }
 }
 
 fn main() {
