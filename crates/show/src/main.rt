@@ -210,15 +210,6 @@ fn go_events(asked: Asked, head: &[u8], out: &mut [u8; 65536]) {
     lend_events(asked, head, &mut text, &mut items, &mut events, out);
 }
 
-// The compiler keeps this a function with a frame of its own, since it is called in two places: so a run on a short text needs little stack.
-fn go_large(asked: Asked, head: &[u8], out: &mut [u8; 65536]) {
-    if takes_large(asked.entry) {
-        go_items(asked, head, out);
-        return;
-    }
-    go_events(asked, head, out);
-}
-
 // A long text is not begun where the stack has no room for it.
 fn lacks_room(asked: Asked) -> bool {
     if asked.roomy {
@@ -229,6 +220,23 @@ fn lacks_room(asked: Asked) -> bool {
         b"paumelu: the stack has no room for a text of over 65,536 bytes (ulimit -s)\n",
     );
     true
+}
+
+// The compiler keeps this a function with a frame of its own, since it is called in two places and is not short: so a run on a short text needs
+// little stack. The recorded run, on a stack of the usual size, shows it.
+fn go_large(asked: Asked, head: &[u8], out: &mut [u8; 65536]) {
+    if !asked.roomy {
+        complain(
+            asked,
+            b"paumelu: the stack has no room for a text of over 65,536 bytes\n",
+        );
+        return;
+    }
+    if takes_large(asked.entry) {
+        go_items(asked, head, out);
+        return;
+    }
+    go_events(asked, head, out);
 }
 
 fn read_small(
@@ -271,13 +279,11 @@ fn go_small(asked: Asked, out: &mut [u8; 65536]) {
 }
 
 fn go(asked: Asked, out: &mut [u8; 65536]) {
-    if !asked.long {
-        go_small(asked, out);
+    if asked.long {
+        go_large(asked, b"", out);
         return;
     }
-    if !lacks_room(asked) {
-        go_large(asked, b"", out);
-    }
+    go_small(asked, out);
 }
 
 fn main() {
