@@ -72,9 +72,9 @@ error 10 at bytes 0 to 2, line 1, column 1: a bad spread: it has three dots
 status 1
 END
 given '"""\r\n"""%%' items <<'END'
-1  StringValue  0  8  """\r\n"""
-2  error 1      8  9  %
-3  Eof          9  9
+ 1  StringValue   0   8  """\r\n"""
+ 2  error 1       8   9  %
+ 3  Eof           9   9
 
 error 1 at bytes 8 to 9, line 2, column 4: an unexpected character
     """%
@@ -94,7 +94,6 @@ END
 given 'a b' items --limit 2 <<'END'
 1  Name         0  1  a
 2  Whitespace   1  2   
-
 refusal 4 at byte 2, line 1, column 3: the token limit is reached
     a b
       ^
@@ -102,7 +101,6 @@ status 1
 END
 given 'a' items --limit 1 <<'END'
 1  Name         0  1  a
-
 refusal 4 at byte 1, line 1, column 2: the token limit is reached
     a
      ^
@@ -115,10 +113,10 @@ refusal 3 at byte 3, line 1, column 3: the text is not UTF-8 from here on
 status 1
 END
 given '[]' value --depth 0 <<'END'
-1  LIST_VALUE                                0  0
-2    [                                       0  1  [
-3    ]                                       1  2  ]
-4  /LIST_VALUE                               0  2  []
+ 1  LIST_VALUE                                0  0
+ 2    [                                       0  1  [
+ 3    ]                                       1  2  ]
+ 4  /LIST_VALUE                               0  2  []
 status 0
 END
 given '[1]' value --depth 0 <<'END'
