@@ -94,6 +94,7 @@ END
 given 'a b' items --limit 2 <<'END'
 1  Name         0  1  a
 2  Whitespace   1  2   
+
 refusal 4 at byte 2, line 1, column 3: the token limit is reached
     a b
       ^
@@ -101,6 +102,7 @@ status 1
 END
 given 'a' items --limit 1 <<'END'
 1  Name         0  1  a
+
 refusal 4 at byte 1, line 1, column 2: the token limit is reached
     a
      ^

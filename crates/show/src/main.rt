@@ -44,7 +44,7 @@ fn finish(asked: Asked, refused: bool, at: usize, out: &mut [u8; 65536]) {
     tell(asked, b'0');
 }
 
-// After the list come the error items with their lines.
+// After the list come the error items with their lines, and then a refusal.
 fn list_errors(
     asked: Asked,
     text: &[u8],
@@ -69,6 +69,7 @@ fn list_items(asked: Asked, text: &[u8], tape: &mut [u8], out: &mut [u8; 65536])
         finish(asked, walk.errors != 0, at, out);
         return;
     }
+    let at = output::put_if(out, at, pass.given != 0, b'\n');
     let at = report::put_report(out, at, asked.colour, text, pass.number, pass.place, 0);
     finish(asked, true, at, out);
 }
