@@ -44,7 +44,7 @@ fn finish(asked: Asked, refused: bool, at: usize, out: &mut [u8; 65536]) {
     tell(asked, b'0');
 }
 
-// After the list come the error items with their lines.
+// After the list come the error items with their lines, and then a refusal.
 fn list_errors(
     asked: Asked,
     text: &[u8],
@@ -69,6 +69,7 @@ fn list_items(asked: Asked, text: &[u8], tape: &mut [u8], out: &mut [u8; 65536])
         finish(asked, walk.errors != 0, at, out);
         return;
     }
+    let at = output::put_if(out, at, pass.given != 0, b'\n');
     let at = report::put_report(out, at, asked.colour, text, pass.number, pass.place, 0);
     finish(asked, true, at, out);
 }
@@ -210,7 +211,20 @@ fn go_events(asked: Asked, head: &[u8], out: &mut [u8; 65536]) {
     lend_events(asked, head, &mut text, &mut items, &mut events, out);
 }
 
-// The compiler keeps this a function with a frame of its own, since it is called in two places: so a run on a short text needs little stack.
+// A long text is not begun where the stack has no room for it.
+fn lacks_room(asked: Asked) -> bool {
+    if asked.roomy {
+        return false;
+    }
+    complain(
+        asked,
+        b"paumelu: the stack has no room for a text of over 65,536 bytes (ulimit -s)\n",
+    );
+    true
+}
+
+// The compiler keeps this a function with a frame of its own, since it is called in two places and is not short: so a run on a short text needs
+// little stack. The recorded run, on a stack of the usual size, shows it.
 fn go_large(asked: Asked, head: &[u8], out: &mut [u8; 65536]) {
     if !asked.roomy {
         complain(
@@ -242,7 +256,9 @@ fn read_small(
         answer(asked, paumelu::part(text, 0, n), items, events, out);
         return;
     }
-    go_large(asked, text, out);
+    if !lacks_room(asked) {
+        go_large(asked, text, out);
+    }
 }
 
 fn lend_small(
