@@ -1,31 +1,32 @@
 // Classes of bytes: `class` decides, and the rest of the lexer asks it.
+use codes::item;
 ghost use mathlib.Core.Path.{_≡_};
 ghost use Rattle.rules.specs.Classes.{digit, nameStart, nameContinue};
 ghost use Rattle.lookup.specs.Class.{punctuationOf, classOf};
 
-// The class of a byte: the code of the token that can begin with it, but 21 for `-`, and 0 if none can.
+// The class of a byte: the code of the token that can begin with it, but that of a Float for `-`, and that of Eof if none can.
 pub fn class(b: u8) -> u8
     ensures { λ r. ⌜ r ≡ classOf b ⌝ }
 {
     if base::within(b'a', b'z', b) {
-        return 18;
+        return item::NAME;
     }
     if base::within(b'A', b'Z', b) {
-        return 18;
+        return item::NAME;
     }
     if base::within(b'0', b'9', b) {
-        return 20;
+        return item::INT;
     }
     match b {
-        b'_' => 18,
-        b'\t' => 1,
-        b'\n' => 1,
-        b'\r' => 1,
-        b' ' => 1,
-        b'"' => 19,
-        b'#' => 2,
-        b'-' => 21,
-        b'.' => 9,
+        b'_' => item::NAME,
+        b'\t' => item::WHITESPACE,
+        b'\n' => item::WHITESPACE,
+        b'\r' => item::WHITESPACE,
+        b' ' => item::WHITESPACE,
+        b'"' => item::STRING_VALUE,
+        b'#' => item::COMMENT,
+        b'-' => item::FLOAT,
+        b'.' => item::SPREAD,
         _ => punctuation_kind(b),
     }
 }
@@ -35,42 +36,42 @@ fn punctuation_kind(b: u8) -> u8
     ensures { λ r. ⌜ r ≡ punctuationOf b ⌝ }
 {
     match b {
-        b',' => 3,
-        b'!' => 4,
-        b'$' => 5,
-        b'&' => 6,
-        b'(' => 7,
-        b')' => 8,
-        b':' => 10,
-        b'=' => 11,
-        b'@' => 12,
-        b'[' => 13,
-        b']' => 14,
-        b'{' => 15,
-        b'|' => 16,
-        b'}' => 17,
-        _ => 0,
+        b',' => item::COMMA,
+        b'!' => item::BANG,
+        b'$' => item::DOLLAR,
+        b'&' => item::AMP,
+        b'(' => item::L_PAREN,
+        b')' => item::R_PAREN,
+        b':' => item::COLON,
+        b'=' => item::EQ,
+        b'@' => item::AT,
+        b'[' => item::L_BRACKET,
+        b']' => item::R_BRACKET,
+        b'{' => item::L_CURLY,
+        b'|' => item::PIPE,
+        b'}' => item::R_CURLY,
+        _ => item::EOF,
     }
 }
 
 pub fn is_namestart(b: u8) -> bool
     ensures { λ r. ⌜ r ≡ nameStart b ⌝ }
 {
-    class(b) == 18
+    class(b) == item::NAME
 }
 
 pub fn is_digit(b: u8) -> bool
     ensures { λ r. ⌜ r ≡ digit b ⌝ }
 {
-    class(b) == 20
+    class(b) == item::INT
 }
 
 pub fn is_name_continue(b: u8) -> bool
     ensures { λ r. ⌜ r ≡ nameContinue b ⌝ }
 {
     let k = class(b);
-    if k == 18 {
+    if k == item::NAME {
         return true;
     }
-    k == 20
+    k == item::INT
 }

@@ -1,0 +1,3 @@
+-- Document 01's tables of codes.
+pub mod ItemCodes
+pub mod EventCodes
