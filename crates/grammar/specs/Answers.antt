@@ -18,13 +18,6 @@ use Rattle.syntax.specs.TypeReading.{readType}
 use Rattle.grammar.specs.declared.Entry.{Entry}
 use Rattle.grammar.specs.declared.Entry.the-variants.{Value, Constant, Ty, SelectionSet}
 
--- the entries' numbers, as a list of cases gives them
-unfoldable pub numberOf : Entry → ℕ
-numberOf Value = 1
-numberOf Constant = 2
-numberOf Ty = 3
-numberOf SelectionSet = 4
-
 -- "read a value, a constant value, a type or a selection set, each filling the whole text"
 unfoldable pub readOf : Entry → (depth : ℕ) → List Token → Read
 readOf Value d ts = readValue d ts

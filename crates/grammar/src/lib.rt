@@ -1,15 +1,16 @@
 // The grammar's entries: reading items first, then what the entry names, filling the whole text. The events are counted before any is written.
+use codes::item;
+use codes::refusal;
 use parser::Step;
 use reader::Answer;
 ghost use mathlib.Core.Path.{_≡_};
-ghost use Prim.Native.Nat.{_≤_, _<_};
+ghost use Prim.Native.Nat.{_≤_};
 ghost use lib.ListN.{length};
 ghost use Rattle.tape.specs.Entry.{room};
 ghost use Rattle.rules.specs.Items.{items as itemsOf};
 ghost use Rattle.syntax.specs.Words.{tokens};
 ghost use Rattle.parser.specs.View.{Holds};
-ghost use Rattle.parser.specs.Promise.{Ready};
-ghost use Rattle.grammar.specs.Answers.{numberOf, readOf, firstError, readAnswer, countedEvents, grammarAnswer, grammarItems, grammarEvents};
+ghost use Rattle.grammar.specs.Answers.{readOf, firstError, readAnswer, countedEvents, grammarAnswer, grammarItems, grammarEvents};
 ghost use Rattle.grammar.specs.Promise.{Begins, Parses};
 
 // What a text is read as.
@@ -51,9 +52,9 @@ fn parse(entry: Entry, text: &[u8], items: &[u8], depth: usize, events: &mut [u8
         Step::Stop { number, place } => Step::Stop { number, place },
         Step::Done { next, end, out } => {
             let token = parser::peek_token(text, items, next);
-            if token.kind != 0 {
+            if token.kind != item::EOF {
                 return Step::Stop {
-                    number: 9,
+                    number: refusal::NO_SENTENCE,
                     place: token.start,
                 };
             }
@@ -90,7 +91,7 @@ fn parse_twice(
         } => {
             if tape::capacity(events) < out {
                 return Answer {
-                    number: 10,
+                    number: refusal::EVENT_TAPE_SHORT,
                     place: 0,
                     items: count,
                     events: out,
@@ -98,7 +99,7 @@ fn parse_twice(
             }
             parse(entry, text, items, depth, events);
             Answer {
-                number: 0,
+                number: refusal::DONE,
                 place: text.len(),
                 items: count,
                 events: out,
@@ -116,7 +117,7 @@ fn first_error(text: &[u8], items: &[u8], count: usize) -> usize
     let mut i = 0;
     while i < count {
         let e = tape::get_entry(items, i);
-        if e.code >= 64 {
+        if e.code >= item::ERROR {
             return i;
         }
         i += 1;
@@ -137,23 +138,23 @@ pub fn read(
     ensures items { λ _. ⌜ now (items .exit) ≡ grammarItems (now (text .entry)) limit depth (now (items .entry)) ⌝ }
     ensures events { λ _. ⌜ now (events .exit) ≡ grammarEvents entry (now (text .entry)) limit depth (now (items .entry)) (now (events .entry)) ⌝ }
 {
-    if depth > 500 {
+    if depth > refusal::DEEPEST {
         return Answer {
-            number: 1,
+            number: refusal::DEPTH_LIMIT,
             place: 0,
             items: 0,
             events: 0,
         };
     }
     let a = reader::read_items(text, limit, items);
-    if a.number != 0 {
+    if a.number != refusal::DONE {
         return a;
     }
     let first = first_error(text, items, a.items);
     if first < a.items {
         let e = tape::get_entry(items, first);
         return Answer {
-            number: 6,
+            number: refusal::ERROR_ITEM,
             place: e.start,
             items: a.items,
             events: 0,

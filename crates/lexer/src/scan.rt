@@ -2,6 +2,8 @@
 // stands at its front.
 use crate::state::Scan;
 use crate::state::State;
+use codes::error;
+use codes::item;
 ghost use mathlib.Core.Path.{_≡_};
 ghost use mathlib.Core.Bool.{true, false, _||_};
 ghost use Prim.Native.Nat.{_<_};
@@ -52,7 +54,7 @@ fn blank_at(s: &[u8]) -> usize
     ensures { λ r. ⌜ r ≡ blank (now (s .entry)) ⌝ }
 {
     let b = base::byte_at(s, 0);
-    if lookup::class(b) == 1 {
+    if lookup::class(b) == item::WHITESPACE {
         return 1;
     }
     if b == 0xEF {
@@ -98,7 +100,7 @@ fn ident(rest: &[u8]) -> Scan
     ensures { λ r. ⌜ meaning r ≡ lexedOf (itemAt (now (rest .entry))) ⌝ }
 {
     let n = name_run(&rest[1..]);
-    ends(rest, 18, State::Ident, 1 + n)
+    ends(rest, item::NAME, State::Ident, 1 + n)
 }
 
 // A comment: the first byte is `#`.
@@ -108,7 +110,7 @@ fn comment(rest: &[u8]) -> Scan
     ensures { λ r. ⌜ meaning r ≡ lexedOf (itemAt (now (rest .entry))) ⌝ }
 {
     let n = line_run(&rest[1..]);
-    ends(rest, 2, State::Comment, 1 + n)
+    ends(rest, item::COMMENT, State::Comment, 1 + n)
 }
 
 // Whitespace: a blank stands at the front.
@@ -117,7 +119,7 @@ fn whitespace(rest: &[u8]) -> Scan
     ensures { λ r. ⌜ meaning r ≡ lexedOf (itemAt (now (rest .entry))) ⌝ }
 {
     let n = blank_run(rest);
-    ends(rest, 1, State::Whitespace, n)
+    ends(rest, item::WHITESPACE, State::Whitespace, n)
 }
 
 // A spread or a bad one: the first byte is `.`.
@@ -135,7 +137,7 @@ fn spread_operator(rest: &[u8]) -> Scan
     }
     if rest[1] != b'.' {
         return Scan::Error {
-            fault: 10,
+            fault: error::BAD_SPREAD,
             size: 1 + utf8::size_at(&rest[1..]),
         };
     }
@@ -146,9 +148,15 @@ fn spread_operator(rest: &[u8]) -> Scan
         };
     }
     if rest[2] == b'.' {
-        return Scan::Token { kind: 9, size: 3 };
+        return Scan::Token {
+            kind: item::SPREAD,
+            size: 3,
+        };
     }
-    Scan::Error { fault: 10, size: 2 }
+    Scan::Error {
+        fault: error::BAD_SPREAD,
+        size: 2,
+    }
 }
 
 // The first byte begins no token, unless it begins U+FEFF.
@@ -159,7 +167,7 @@ fn other(rest: &[u8]) -> Scan
 {
     if blank_at(rest) == 0 {
         return Scan::Error {
-            fault: 1,
+            fault: error::UNEXPECTED_CHARACTER,
             size: utf8::size_at(rest),
         };
     }
@@ -189,22 +197,22 @@ pub fn scan(rest: &[u8]) -> Scan
     ensures { λ r. ⌜ meaning r ≡ lexedOf (itemAt (now (rest .entry))) ⌝ }
 {
     let kind = lookup::class(rest[0]);
-    if kind == 18 {
+    if kind == item::NAME {
         return ident(rest);
     }
-    if kind == 1 {
+    if kind == item::WHITESPACE {
         return whitespace(rest);
     }
-    if kind == 0 {
+    if kind == lookup::OTHER {
         return other(rest);
     }
-    if kind == 2 {
+    if kind == item::COMMENT {
         return comment(rest);
     }
-    if kind == 9 {
+    if kind == item::SPREAD {
         return spread_operator(rest);
     }
-    if kind >= 20 {
+    if kind >= item::INT {
         return number(rest);
     }
     Scan::Token { kind, size: 1 }

@@ -4,7 +4,12 @@ ghost use mathlib.Core.Path.{_≡_};
 ghost use Rattle.rules.specs.Classes.{digit, nameStart, nameContinue};
 ghost use Rattle.lookup.specs.Class.{punctuationOf, classOf};
 
-// The class of a byte: the code of the token that can begin with it, but that of a Float for `-`, and that of Eof if none can.
+// Classes that are no token's code alone: a `-` begins an Int or a Float, and some bytes begin nothing.
+pub const MINUS: u8 = item::FLOAT;
+
+pub const OTHER: u8 = item::EOF;
+
+// The class of a byte: the code of the token that can begin with it, or one of the two above.
 pub fn class(b: u8) -> u8
     ensures { λ r. ⌜ r ≡ classOf b ⌝ }
 {
@@ -25,13 +30,13 @@ pub fn class(b: u8) -> u8
         b' ' => item::WHITESPACE,
         b'"' => item::STRING_VALUE,
         b'#' => item::COMMENT,
-        b'-' => item::FLOAT,
+        b'-' => MINUS,
         b'.' => item::SPREAD,
         _ => punctuation_kind(b),
     }
 }
 
-// The code of the punctuator that the byte is; 0 if it is none.
+// The code of the punctuator that the byte is; `OTHER` if it is none.
 fn punctuation_kind(b: u8) -> u8
     ensures { λ r. ⌜ r ≡ punctuationOf b ⌝ }
 {
@@ -50,7 +55,7 @@ fn punctuation_kind(b: u8) -> u8
         b'{' => item::L_CURLY,
         b'|' => item::PIPE,
         b'}' => item::R_CURLY,
-        _ => item::EOF,
+        _ => OTHER,
     }
 }
 

@@ -1,4 +1,6 @@
 // Int and Float: the crate's states of a number, one step for each byte.
+use codes::error;
+use codes::item;
 ghost use mathlib.Core.Path.{_≡_};
 ghost use mathlib.Core.Bool.{true, false, _||_};
 ghost use Prim.Native.Nat.{_<_};
@@ -59,7 +61,7 @@ fn after_integer(b: u8) -> NumberStep
         return NumberStep::Go(NumberState::ExponentIndicator);
     }
     if lookup::is_namestart(b) {
-        return NumberStep::Error(3);
+        return NumberStep::Error(error::INTEGER_SUFFIX);
     }
     NumberStep::Done
 }
@@ -69,10 +71,10 @@ fn after_float(b: u8) -> NumberStep
     ensures { λ r. ⌜ r ≡ afterFloat b ⌝ }
 {
     if b == b'.' {
-        return NumberStep::Error(5);
+        return NumberStep::Error(error::FLOAT_SUFFIX);
     }
     if lookup::is_namestart(b) {
-        return NumberStep::Error(5);
+        return NumberStep::Error(error::FLOAT_SUFFIX);
     }
     NumberStep::Done
 }
@@ -88,7 +90,7 @@ fn digit_step(state: NumberState, b: u8) -> NumberStep
             }
             NumberStep::Go(NumberState::IntegerPart)
         }
-        NumberState::LeadingZero => NumberStep::Error(2),
+        NumberState::LeadingZero => NumberStep::Error(error::SECOND_DIGIT),
         NumberState::IntegerPart => NumberStep::Go(NumberState::IntegerPart),
         NumberState::DecimalPoint => NumberStep::Go(NumberState::FractionalPart),
         NumberState::FractionalPart => NumberStep::Go(NumberState::FractionalPart),
@@ -103,10 +105,10 @@ fn other_step(state: NumberState, b: u8) -> NumberStep
     ensures { λ r. ⌜ r ≡ otherStep state b ⌝ }
 {
     match state {
-        NumberState::MinusSign => NumberStep::Error(8),
+        NumberState::MinusSign => NumberStep::Error(error::MINUS_WITHOUT_DIGIT),
         NumberState::LeadingZero => after_integer(b),
         NumberState::IntegerPart => after_integer(b),
-        NumberState::DecimalPoint => NumberStep::Error(4),
+        NumberState::DecimalPoint => NumberStep::Error(error::NO_FRACTION_DIGIT),
         NumberState::FractionalPart => {
             if is_exponent_indicator(b) {
                 return NumberStep::Go(NumberState::ExponentIndicator);
@@ -120,9 +122,9 @@ fn other_step(state: NumberState, b: u8) -> NumberStep
             if b == b'-' {
                 return NumberStep::Go(NumberState::ExponentSign);
             }
-            NumberStep::Error(6)
+            NumberStep::Error(error::NO_EXPONENT)
         }
-        NumberState::ExponentSign => NumberStep::Error(7),
+        NumberState::ExponentSign => NumberStep::Error(error::NO_DIGIT_AFTER_SIGN),
         NumberState::ExponentDigit => after_float(b),
     }
 }
@@ -141,9 +143,9 @@ fn number_kind(state: NumberState) -> u8
     ensures { λ r. ⌜ r ≡ kindOf state ⌝ }
 {
     match state {
-        NumberState::FractionalPart => 21,
-        NumberState::ExponentDigit => 21,
-        _ => 20,
+        NumberState::FractionalPart => item::FLOAT,
+        NumberState::ExponentDigit => item::FLOAT,
+        _ => item::INT,
     }
 }
 

@@ -1,4 +1,6 @@
 // The parser's view of an item tape as tokens, and of an event tape. Ignored items are passed over.
+use codes::item;
+use codes::node;
 ghost use mathlib.Core.Path.{_≡_};
 ghost use Prim.Native.Nat.{_+_, _-_, _^_, _≤_, _<_};
 ghost use lib.Dec.{leb};
@@ -12,7 +14,19 @@ ghost use Rattle.syntax.specs.Words.{same, wordOf, ignored};
 ghost use Rattle.parser.specs.View.{Holds, Front, tokenOf, kindOf};
 ghost use Rattle.parser.specs.Events.{store, Puts};
 
-// A token: its kind (the item code; 22 `true`, 23 `false`, 24 `null`, 25 `on`), its first byte, its size, and the item number after it.
+// A token's kind is its item code; but a Name that is one of the four words which the grammar knows has a kind of its own, past all of these.
+pub const TRUE: u8 = 22;
+
+pub const FALSE: u8 = 23;
+
+pub const NULL: u8 = 24;
+
+pub const ON: u8 = 25;
+
+// The event of a Name.
+const NAME_TOKEN: u8 = node::TOKEN + item::NAME;
+
+// A token: its kind, its first byte, its size, and the item number after it.
 pub struct Peeked {
     pub kind: u8,
     pub start: usize,
@@ -49,24 +63,24 @@ fn word_kind(word: &[u8]) -> u8
     ensures { λ r. ⌜ r ≡ wordOf (now (word .entry)) ⌝ }
 {
     if is_same(word, b"true") {
-        return 22;
+        return TRUE;
     }
     if is_same(word, b"false") {
-        return 23;
+        return FALSE;
     }
     if is_same(word, b"null") {
-        return 24;
+        return NULL;
     }
     if is_same(word, b"on") {
-        return 25;
+        return ON;
     }
-    18
+    item::NAME
 }
 
 fn is_ignored(code: u8) -> bool
     ensures { λ r. ⌜ r ≡ ignored code ⌝ }
 {
-    base::within(1, 3, code)
+    base::within(item::WHITESPACE, item::COMMA, code)
 }
 
 // The kind of the token that an item is.
@@ -74,7 +88,7 @@ fn token_kind(text: &[u8], code: u8, start: usize, size: usize) -> u8
     requires { ⌜ start + size ≤ length (now text) ⌝ }
     ensures { λ r. ⌜ r ≡ kindOf (now (text .entry)) code start size ⌝ }
 {
-    if code == 18 {
+    if code == item::NAME {
         return word_kind(reader::part(text, start, size));
     }
     code
@@ -152,7 +166,7 @@ pub fn put_close(events: &mut [u8], out: usize, node: u8, start: usize, end: usi
     requires { ⌜ end < 2 ^ 28 ⌝ }
     ensures { λ r. ⌜ Puts (now (events .entry)) out (now (events .exit)) r (closes node start end ∷ []) ⌝ }
 {
-    put(events, out, 64 + node, start, less(end, start))
+    put(events, out, node::CLOSES + node, start, less(end, start))
 }
 
 // The code of a token's event, by the token's kind.
@@ -160,10 +174,10 @@ fn event_code(kind: u8) -> u8
     requires { ⌜ kind < 26 ⌝ }
     ensures { λ r. ⌜ r ≡ 128 + pick (leb 22 kind) 18 kind ⌝ }
 {
-    if kind >= 22 {
-        return 146;
+    if kind >= TRUE {
+        return NAME_TOKEN;
     }
-    128 + kind
+    node::TOKEN + kind
 }
 
 // A token's event.
@@ -196,6 +210,6 @@ pub fn put_named(events: &mut [u8], out: usize, node: u8, token: Peeked) -> usiz
     ensures { λ r. ⌜ Puts (now (events .entry)) out (now (events .exit)) r (opens node (token .start) ∷ (nameEvents (tokenOf token) ++ (closes node (token .start) (endOf (tokenOf token)) ∷ []))) ⌝ }
 {
     let opened = put_open(events, out, node, token.start);
-    let named = put_leaf(events, opened, 1, token);
+    let named = put_leaf(events, opened, node::NAME, token);
     put_close(events, named, node, token.start, token.start + token.size)
 }

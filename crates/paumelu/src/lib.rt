@@ -1,4 +1,5 @@
 // Paumelu: a GraphQL reader whose every answer is proved. The entries, and the C interface. Nothing is decided here.
+use codes::refusal;
 pub use reader::Answer;
 pub use reader::part;
 pub use reader::read_items;
@@ -91,11 +92,11 @@ pub extern "C" fn paumelu_read(
     ensures events { λ _. ⌜ now (events .exit) ≡ interfaceAnswer entry (now (text .entry)) limit (now (tape .entry)) .events ⌝ }
     ensures tape { λ _. ⌜ now (tape .exit) ≡ interfaceTape entry (now (text .entry)) limit (now (tape .entry)) ⌝ }
 {
-    if entry != 0 {
+    if entry != refusal::READ_ITEMS {
         *place = 0;
         *items = 0;
         *events = 0;
-        return 11;
+        return refusal::ENTRY_CODE;
     }
     let a = reader::read_items(text, limit as usize, tape);
     *place = a.place as u64;

@@ -2,6 +2,9 @@
 use crate::step::then_close;
 use crate::step::then_colon;
 use crate::step::then_value;
+use codes::item;
+use codes::node;
+use codes::refusal;
 use parser::Peeked;
 use parser::Step;
 ghost use mathlib.Core.Path.{_≡_};
@@ -27,15 +30,15 @@ pub fn argument(
     requires { ⌜ Seen (now text) token ⌝ }
     ensures { λ r. ⌜ ((at l start : ℕ) → Front (now (text .entry)) at token → Outcome false (now (text .entry)) (argumentsDue depth start ∷ []) (argumentsDue depth start ∷ []) l at (now (events .entry)) out (now (events .exit)) r) ⌝ }
 {
-    let opened = parser::put_open(events, out, 19, token.start);
+    let opened = parser::put_open(events, out, node::ARGUMENT, token.start);
     let named = Step::Done {
         next: token.next,
         end: token.start + token.size,
-        out: parser::put_leaf(events, opened, 1, token),
+        out: parser::put_leaf(events, opened, node::NAME, token),
     };
     let parted = then_colon(text, items, named, events);
     let valued = then_value(text, items, parted, depth, events);
-    then_close(text, valued, 19, token.start, events)
+    then_close(text, valued, node::ARGUMENT, token.start, events)
 }
 
 // Arguments, whose `(` is the token.
@@ -53,28 +56,28 @@ fn arguments(
     ensures { λ r. ⌜ ((at l : ℕ) → Front (now (text .entry)) at token → Outcome false (now (text .entry)) (optArguments depth ∷ []) [] l at (now (events .entry)) out (now (events .exit)) r) ⌝ }
 {
     let start = token.start;
-    let mut o = values::token::open_with(18, token, events, out);
+    let mut o = values::token::open_with(node::ARGUMENTS, token, events, out);
     let mut i = token.next;
     let first = parser::peek_token(text, items, i);
     if !values::name::is_name(first.kind) {
         return Step::Stop {
-            number: 9,
+            number: refusal::NO_SENTENCE,
             place: first.start,
         };
     }
     loop {
         let t = parser::peek_token(text, items, i);
         let kind = t.kind;
-        if kind == 8 {
+        if kind == item::R_PAREN {
             return Step::Done {
                 next: t.next,
                 end: t.start + t.size,
-                out: values::token::close_with(18, start, t, events, o),
+                out: values::token::close_with(node::ARGUMENTS, start, t, events, o),
             };
         }
         if !values::name::is_name(kind) {
             return Step::Stop {
-                number: 9,
+                number: refusal::NO_SENTENCE,
                 place: t.start,
             };
         }
@@ -110,7 +113,7 @@ pub fn then_arguments(
         Step::Stop { number, place } => Step::Stop { number, place },
         Step::Done { next, end, out } => {
             let token = parser::peek_token(text, items, next);
-            if token.kind != 7 {
+            if token.kind != item::L_PAREN {
                 return Step::Done { next, end, out };
             }
             arguments(text, items, token, depth, events, out)

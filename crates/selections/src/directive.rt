@@ -2,6 +2,8 @@
 use crate::argument::then_arguments;
 use crate::step::then_close;
 use crate::step::then_name;
+use codes::item;
+use codes::node;
 use parser::Peeked;
 use parser::Step;
 ghost use mathlib.Core.Path.{_≡_};
@@ -30,11 +32,11 @@ pub fn directive(
     let opened = Step::Done {
         next: token.next,
         end: token.start + token.size,
-        out: values::token::open_with(21, token, events, out),
+        out: values::token::open_with(node::DIRECTIVE, token, events, out),
     };
     let named = then_name(text, items, opened, events);
     let given = then_arguments(text, items, named, depth, events);
-    then_close(text, given, 21, token.start, events)
+    then_close(text, given, node::DIRECTIVE, token.start, events)
 }
 
 // Directives, of which the first begins at item number `at`, where the token before ended at `before`.
@@ -58,11 +60,11 @@ fn directives(
     let mut o = out;
     loop {
         let t = parser::peek_token(text, items, i);
-        if t.kind != 12 {
+        if t.kind != item::AT {
             return Step::Done {
                 next: i,
                 end: e,
-                out: parser::put_close(events, o, 20, start, e),
+                out: parser::put_close(events, o, node::DIRECTIVES, start, e),
             };
         }
         match directive(text, items, t, depth, events, o) {
@@ -94,10 +96,10 @@ pub fn then_directives(
         Step::Stop { number, place } => Step::Stop { number, place },
         Step::Done { next, end, out } => {
             let token = parser::peek_token(text, items, next);
-            if token.kind != 12 {
+            if token.kind != item::AT {
                 return Step::Done { next, end, out };
             }
-            let opened = parser::put_open(events, out, 20, token.start);
+            let opened = parser::put_open(events, out, node::DIRECTIVES, token.start);
             directives(text, items, next, end, token.start, depth, events, opened)
         }
     }

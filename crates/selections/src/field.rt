@@ -4,6 +4,8 @@ use crate::directive::then_directives;
 use crate::selection::then_selection_set;
 use crate::step::then_close;
 use crate::step::then_name;
+use codes::item;
+use codes::node;
 use parser::Peeked;
 use parser::Step;
 ghost use mathlib.Core.Path.{_≡_};
@@ -26,9 +28,9 @@ fn alias(token: Peeked, colon: Peeked, events: &mut [u8], out: usize) -> usize
     requires { ⌜ colon .start + colon .size < 2 ^ 28 ⌝ }
     ensures { λ r. ⌜ Puts (now (events .entry)) out (now (events .exit)) r (opens 17 (token .start) ∷ (nameEvents (tokenOf token) ++ (tokenEvent (tokenOf colon) ∷ closes 17 (token .start) (endOf (tokenOf colon)) ∷ []))) ⌝ }
 {
-    let opened = parser::put_open(events, out, 17, token.start);
-    let named = parser::put_leaf(events, opened, 1, token);
-    values::token::close_with(17, token.start, colon, events, named)
+    let opened = parser::put_open(events, out, node::ALIAS, token.start);
+    let named = parser::put_leaf(events, opened, node::NAME, token);
+    values::token::close_with(node::ALIAS, token.start, colon, events, named)
 }
 
 // The field opens, whose first name is the token: an alias if a `:` follows, and then the name; else the name.
@@ -38,13 +40,13 @@ fn field_head(text: &[u8], items: &[u8], token: Peeked, events: &mut [u8], out: 
     requires { ⌜ Seen (now text) token ⌝ }
     ensures { λ r. ⌜ ((c : Bool) (depth : ℕ) → Goes c (now (text .entry)) (namedDue depth (tokenOf token) ∷ []) (optArguments depth ∷ optDirectives depth ∷ optSelectionSet depth ∷ close 16 (token .start) ∷ []) (now (events .entry)) (now (events .exit)) (Done (token .next) (token .start + token .size) out) r) ⌝ }
 {
-    let opened = parser::put_open(events, out, 16, token.start);
+    let opened = parser::put_open(events, out, node::FIELD, token.start);
     let colon = parser::peek_token(text, items, token.next);
-    if colon.kind != 10 {
+    if colon.kind != item::COLON {
         return Step::Done {
             next: token.next,
             end: token.start + token.size,
-            out: parser::put_leaf(events, opened, 1, token),
+            out: parser::put_leaf(events, opened, node::NAME, token),
         };
     }
     let aliased = Step::Done {
@@ -91,7 +93,7 @@ fn brace_follows(text: &[u8], items: &[u8], step: Step) -> bool
             out: _,
         } => {
             let token = parser::peek_token(text, items, next);
-            token.kind == 15
+            token.kind == item::L_CURLY
         }
     }
 }
@@ -112,8 +114,8 @@ pub fn field(
 {
     let parts = field_parts(text, items, token, depth, events, out);
     if !brace_follows(text, items, parts) {
-        return then_close(text, parts, 16, token.start, events);
+        return then_close(text, parts, node::FIELD, token.start, events);
     }
     let set = then_selection_set(text, items, parts, depth, events);
-    then_close(text, set, 16, token.start, events)
+    then_close(text, set, node::FIELD, token.start, events)
 }

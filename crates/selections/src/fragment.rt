@@ -2,6 +2,7 @@
 use crate::directive::then_directives;
 use crate::selection::then_selection_set;
 use crate::step::then_close;
+use codes::node;
 use parser::Peeked;
 use parser::Step;
 ghost use mathlib.Core.Path.{_≡_};
@@ -19,10 +20,10 @@ ghost use Rattle.parser.specs.Promise.{Goes, Begun};
 pub fn is_fragment_name(kind: u8) -> bool
     ensures { λ r. ⌜ r ≡ isFragmentName kind ⌝ }
 {
-    if kind == 18 {
+    if kind == codes::item::NAME {
         return true;
     }
-    base::within(22, 24, kind)
+    base::within(parser::TRUE, parser::NULL, kind)
 }
 
 // A FRAGMENT_NAME around a NAME.
@@ -31,7 +32,7 @@ fn fragment_name(token: Peeked, events: &mut [u8], out: usize) -> usize
     requires { ⌜ token .start + token .size < 2 ^ 28 ⌝ }
     ensures { λ r. ⌜ Puts (now (events .entry)) out (now (events .exit)) r (opens 23 (token .start) ∷ (nameEvents (tokenOf token) ++ (closes 23 (token .start) (endOf (tokenOf token)) ∷ []))) ⌝ }
 {
-    parser::put_named(events, out, 23, token)
+    parser::put_named(events, out, node::FRAGMENT_NAME, token)
 }
 
 // A fragment spread, whose `...` is `dots` and whose name is the token.
@@ -51,14 +52,14 @@ pub fn fragment_spread(
     requires { ⌜ Front (now text) (dots .next) token ⌝ }
     ensures { λ r. ⌜ Goes false (now (text .entry)) (spread depth (tokenOf dots) ∷ []) [] (now (events .entry)) (now (events .exit)) (Done (dots .next) (dots .start + dots .size) out) r ⌝ }
 {
-    let opened = values::token::open_with(22, dots, events, out);
+    let opened = values::token::open_with(node::FRAGMENT_SPREAD, dots, events, out);
     let named = Step::Done {
         next: token.next,
         end: token.start + token.size,
         out: fragment_name(token, events, opened),
     };
     let directed = then_directives(text, items, named, depth, events);
-    then_close(text, directed, 22, dots.start, events)
+    then_close(text, directed, node::FRAGMENT_SPREAD, dots.start, events)
 }
 
 // A type condition, whose `on` is the token: a NAMED_TYPE follows.
@@ -68,9 +69,9 @@ fn type_condition(text: &[u8], items: &[u8], token: Peeked, events: &mut [u8], o
     requires { ⌜ Seen (now text) token ⌝ }
     ensures { λ r. ⌜ ((c : Bool) → Begun c (now (text .entry)) (opens 25 (token .start) ∷ tokenEvent (tokenOf token) ∷ []) (namedType ∷ close 25 (token .start) ∷ []) [] (token .next) (token .start + token .size) (now (events .entry)) out (now (events .exit)) r) ⌝ }
 {
-    let opened = values::token::open_with(25, token, events, out);
+    let opened = values::token::open_with(node::TYPE_CONDITION, token, events, out);
     let named = types::ty::named_type(text, items, token.next, events, opened);
-    then_close(text, named, 25, token.start, events)
+    then_close(text, named, node::TYPE_CONDITION, token.start, events)
 }
 
 // The inline fragment opens, whose `...` is `dots`: with a type condition if the token after it is `on`.
@@ -89,8 +90,8 @@ fn fragment_head(
     requires { ⌜ Front (now text) (dots .next) token ⌝ }
     ensures { λ r. ⌜ ((c : Bool) (depth : ℕ) → Goes c (now (text .entry)) (spread depth (tokenOf dots) ∷ []) (optDirectives depth ∷ selectionSet depth ∷ close 24 (dots .start) ∷ []) (now (events .entry)) (now (events .exit)) (Done (dots .next) (dots .start + dots .size) out) r) ⌝ }
 {
-    let opened = values::token::open_with(24, dots, events, out);
-    if token.kind == 25 {
+    let opened = values::token::open_with(node::INLINE_FRAGMENT, dots, events, out);
+    if token.kind == parser::ON {
         return type_condition(text, items, token, events, opened);
     }
     Step::Done {
@@ -120,5 +121,5 @@ pub fn inline_fragment(
     let head = fragment_head(text, items, dots, token, events, out);
     let directed = then_directives(text, items, head, depth, events);
     let set = then_selection_set(text, items, directed, depth, events);
-    then_close(text, set, 24, dots.start, events)
+    then_close(text, set, node::INLINE_FRAGMENT, dots.start, events)
 }

@@ -3,6 +3,8 @@ use crate::field::field;
 use crate::fragment::fragment_spread;
 use crate::fragment::inline_fragment;
 use crate::fragment::is_fragment_name;
+use codes::item;
+use codes::refusal;
 use parser::Peeked;
 use parser::Step;
 ghost use mathlib.Core.Path.{_≡_};
@@ -18,7 +20,7 @@ ghost use Rattle.selections.specs.Follows.{beginsSelection};
 fn begins_selection(kind: u8) -> bool
     ensures { λ r. ⌜ r ≡ beginsSelection kind ⌝ }
 {
-    if kind == 9 {
+    if kind == item::SPREAD {
         return true;
     }
     values::name::is_name(kind)
@@ -38,7 +40,7 @@ fn selection(
     requires { ⌜ Seen (now text) token ⌝ }
     ensures { λ r. ⌜ ((at l start : ℕ) → Front (now (text .entry)) at token → Outcome false (now (text .entry)) (selectionsDue depth start ∷ []) (selectionsDue depth start ∷ []) l at (now (events .entry)) out (now (events .exit)) r) ⌝ }
 {
-    if token.kind != 9 {
+    if token.kind != item::SPREAD {
         return field(text, items, token, depth, events, out);
     }
     let following = parser::peek_token(text, items, token.next);
@@ -63,34 +65,34 @@ fn selection_set(
     ensures { λ r. ⌜ ((at l : ℕ) → Front (now (text .entry)) at token → Outcome false (now (text .entry)) (selectionSet depth ∷ []) [] l at (now (events .entry)) out (now (events .exit)) r) ⌝ }
 {
     let start = token.start;
-    let mut o = values::token::open_with(15, token, events, out);
+    let mut o = values::token::open_with(codes::node::SELECTION_SET, token, events, out);
     let mut i = token.next;
     let first = parser::peek_token(text, items, i);
     if depth == 0 {
         return Step::Stop {
-            number: 7,
+            number: refusal::TOO_DEEP,
             place: first.start,
         };
     }
     if !begins_selection(first.kind) {
         return Step::Stop {
-            number: 9,
+            number: refusal::NO_SENTENCE,
             place: first.start,
         };
     }
     loop {
         let t = parser::peek_token(text, items, i);
         let kind = t.kind;
-        if kind == 17 {
+        if kind == item::R_CURLY {
             return Step::Done {
                 next: t.next,
                 end: t.start + t.size,
-                out: values::token::close_with(15, start, t, events, o),
+                out: values::token::close_with(codes::node::SELECTION_SET, start, t, events, o),
             };
         }
         if !begins_selection(kind) {
             return Step::Stop {
-                number: 9,
+                number: refusal::NO_SENTENCE,
                 place: t.start,
             };
         }
@@ -126,9 +128,9 @@ pub fn then_selection_set(
         Step::Stop { number, place } => Step::Stop { number, place },
         Step::Done { next, end: _, out } => {
             let token = parser::peek_token(text, items, next);
-            if token.kind != 15 {
+            if token.kind != item::L_CURLY {
                 return Step::Stop {
-                    number: 9,
+                    number: refusal::NO_SENTENCE,
                     place: token.start,
                 };
             }

@@ -1,4 +1,7 @@
 // Types: a name, a list of a type, and a `!` after either.
+use codes::item;
+use codes::node;
+use codes::refusal;
 use parser::Peeked;
 use parser::Step;
 ghost use mathlib.Core.Path.{_≡_};
@@ -27,14 +30,14 @@ pub fn named_type(text: &[u8], items: &[u8], at: usize, events: &mut [u8], out: 
     let token = parser::peek_token(text, items, at);
     if !values::name::is_name(token.kind) {
         return Step::Stop {
-            number: 9,
+            number: refusal::NO_SENTENCE,
             place: token.start,
         };
     }
     Step::Done {
         next: token.next,
         end: token.start + token.size,
-        out: parser::put_named(events, out, 12, token),
+        out: parser::put_named(events, out, node::NAMED_TYPE, token),
     }
 }
 
@@ -59,10 +62,10 @@ fn open_noted(kind: u8, start: usize, events: &mut [u8], out: usize) -> usize
     requires { ⌜ start < 2 ^ 28 ⌝ }
     ensures { λ r. ⌜ Puts (now (events .entry)) out (now (events .exit)) r (pick (eqb kind bang) (opens 14 start ∷ []) []) ⌝ }
 {
-    if kind != 4 {
+    if kind != item::BANG {
         return out;
     }
-    parser::put_open(events, out, 14, start)
+    parser::put_open(events, out, node::NON_NULL_TYPE, start)
 }
 
 // The `]` of a list type that began at start is due.
@@ -80,16 +83,16 @@ fn end_list(
     ensures { λ r. ⌜ Closed (now (text .entry)) start at (now (events .entry)) out (now (events .exit)) r ⌝ }
 {
     let token = parser::peek_token(text, items, at);
-    if token.kind != 14 {
+    if token.kind != item::R_BRACKET {
         return Step::Stop {
-            number: 9,
+            number: refusal::NO_SENTENCE,
             place: token.start,
         };
     }
     Step::Done {
         next: token.next,
         end: token.start + token.size,
-        out: values::token::close_with(13, start, token, events, out),
+        out: values::token::close_with(node::LIST_TYPE, start, token, events, out),
     }
 }
 
@@ -109,13 +112,13 @@ fn end_type(
     requires { ⌜ start < 2 ^ 28 ⌝ }
     ensures { λ r. ⌜ Ended (now (text .entry)) start at end (now (events .entry)) out (now (events .exit)) r ⌝ }
 {
-    if token.kind != 4 {
+    if token.kind != item::BANG {
         return Step::Done { next: at, end, out };
     }
     Step::Done {
         next: token.next,
         end: token.start + token.size,
-        out: values::token::close_with(14, start, token, events, out),
+        out: values::token::close_with(node::NON_NULL_TYPE, start, token, events, out),
     }
 }
 
@@ -124,7 +127,7 @@ fn too_deep(token: Peeked) -> Step
     ensures { λ r. ⌜ r ≡ Step.Stop 7 (token .start) ⌝ }
 {
     Step::Stop {
-        number: 7,
+        number: refusal::TOO_DEEP,
         place: token.start,
     }
 }
@@ -149,19 +152,19 @@ fn base_type(
         return Step::Done {
             next: token.next,
             end: token.start + token.size,
-            out: parser::put_named(events, out, 12, token),
+            out: parser::put_named(events, out, node::NAMED_TYPE, token),
         };
     }
-    if token.kind != 13 {
+    if token.kind != item::L_BRACKET {
         return Step::Stop {
-            number: 9,
+            number: refusal::NO_SENTENCE,
             place: token.start,
         };
     }
     if depth == 0 {
         return too_deep(parser::peek_token(text, items, token.next));
     }
-    let opened = values::token::open_with(13, token, events, out);
+    let opened = values::token::open_with(node::LIST_TYPE, token, events, out);
     match walk(text, items, token.next, depth - 1, follows, events, opened) {
         Step::Stop { number, place } => Step::Stop { number, place },
         Step::Done {

@@ -1,4 +1,7 @@
 // Names.
+use codes::item;
+use codes::node;
+use codes::refusal;
 use parser::Step;
 ghost use mathlib.Core.Path.{_≡_};
 ghost use mathlib.Core.Bool.{Bool};
@@ -15,10 +18,10 @@ ghost use Rattle.parser.specs.Promise.{Outcome};
 pub fn is_name(kind: u8) -> bool
     ensures { λ r. ⌜ r ≡ isName kind ⌝ }
 {
-    if kind == 18 {
+    if kind == item::NAME {
         return true;
     }
-    base::within(22, 25, kind)
+    base::within(parser::TRUE, parser::ON, kind)
 }
 
 // A Name is due.
@@ -30,13 +33,13 @@ pub fn name(text: &[u8], items: &[u8], at: usize, events: &mut [u8], out: usize)
     let token = parser::peek_token(text, items, at);
     if !is_name(token.kind) {
         return Step::Stop {
-            number: 9,
+            number: refusal::NO_SENTENCE,
             place: token.start,
         };
     }
     Step::Done {
         next: token.next,
         end: token.start + token.size,
-        out: parser::put_leaf(events, out, 1, token),
+        out: parser::put_leaf(events, out, node::NAME, token),
     }
 }

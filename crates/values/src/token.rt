@@ -41,9 +41,9 @@ pub fn colon(text: &[u8], items: &[u8], at: usize, events: &mut [u8], out: usize
     ensures { λ r. ⌜ ((c : Bool) (l : ℕ) → Outcome c (now (text .entry)) (colonDue ∷ []) [] l at (now (events .entry)) out (now (events .exit)) r) ⌝ }
 {
     let token = parser::peek_token(text, items, at);
-    if token.kind != 10 {
+    if token.kind != codes::item::COLON {
         return Step::Stop {
-            number: 9,
+            number: codes::refusal::NO_SENTENCE,
             place: token.start,
         };
     }

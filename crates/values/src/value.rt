@@ -4,6 +4,9 @@ use crate::token::close_with;
 use crate::token::colon;
 use crate::token::open_with;
 use crate::variable::variable;
+use codes::item;
+use codes::node;
+use codes::refusal;
 use parser::Peeked;
 use parser::Step;
 ghost use mathlib.Core.Path.{_≡_};
@@ -24,12 +27,12 @@ fn scalar_node(kind: u8) -> u8
     ensures { λ r. ⌜ r ≡ scalarNode kind ⌝ }
 {
     match kind {
-        20 => 2,
-        21 => 3,
-        19 => 4,
-        22 => 5,
-        23 => 5,
-        24 => 6,
+        item::INT => node::INT_VALUE,
+        item::FLOAT => node::FLOAT_VALUE,
+        item::STRING_VALUE => node::STRING_VALUE,
+        parser::TRUE => node::BOOLEAN_VALUE,
+        parser::FALSE => node::BOOLEAN_VALUE,
+        parser::NULL => node::NULL_VALUE,
         _ => 0,
     }
 }
@@ -38,10 +41,10 @@ fn scalar_node(kind: u8) -> u8
 fn is_enum(kind: u8) -> bool
     ensures { λ r. ⌜ r ≡ isEnum kind ⌝ }
 {
-    if kind == 18 {
+    if kind == item::NAME {
         return true;
     }
-    kind == 25
+    kind == parser::ON
 }
 
 // An ENUM_VALUE around a NAME.
@@ -50,7 +53,7 @@ fn enum_value(token: Peeked, events: &mut [u8], out: usize) -> usize
     requires { ⌜ token .start + token .size < 2 ^ 28 ⌝ }
     ensures { λ r. ⌜ Puts (now (events .entry)) out (now (events .exit)) r (opens 7 (token .start) ∷ (nameEvents (tokenOf token) ++ (closes 7 (token .start) (endOf (tokenOf token)) ∷ []))) ⌝ }
 {
-    parser::put_named(events, out, 7, token)
+    parser::put_named(events, out, node::ENUM_VALUE, token)
 }
 
 // A value is due, with so much depth left; only a constant may stand there if `constant`.
@@ -84,21 +87,21 @@ pub fn value(
             out: enum_value(token, events, out),
         };
     }
-    if kind == 13 {
+    if kind == item::L_BRACKET {
         return list_value(text, items, constant, token, depth, events, out);
     }
-    if kind == 15 {
+    if kind == item::L_CURLY {
         return object_value(text, items, constant, token, depth, events, out);
     }
-    if kind != 5 {
+    if kind != item::DOLLAR {
         return Step::Stop {
-            number: 9,
+            number: refusal::NO_SENTENCE,
             place: token.start,
         };
     }
     if constant {
         return Step::Stop {
-            number: 8,
+            number: refusal::DOLLAR_IN_CONSTANT,
             place: token.start,
         };
     }
@@ -121,27 +124,27 @@ fn list_value(
     ensures { λ r. ⌜ ((at l : ℕ) → Front (now (text .entry)) at token → Outcome constant (now (text .entry)) (valueDue depth ∷ []) [] l at (now (events .entry)) out (now (events .exit)) r) ⌝ }
 {
     let start = token.start;
-    let mut o = open_with(8, token, events, out);
+    let mut o = open_with(node::LIST_VALUE, token, events, out);
     let mut i = token.next;
     loop {
         let t = parser::peek_token(text, items, i);
         let kind = t.kind;
-        if kind == 14 {
+        if kind == item::R_BRACKET {
             return Step::Done {
                 next: t.next,
                 end: t.start + t.size,
-                out: close_with(8, start, t, events, o),
+                out: close_with(node::LIST_VALUE, start, t, events, o),
             };
         }
-        if kind == 0 {
+        if kind == item::EOF {
             return Step::Stop {
-                number: 9,
+                number: refusal::NO_SENTENCE,
                 place: t.start,
             };
         }
         if depth == 0 {
             return Step::Stop {
-                number: 7,
+                number: refusal::TOO_DEEP,
                 place: t.start,
             };
         }
@@ -168,8 +171,8 @@ fn field_name(text: &[u8], items: &[u8], token: Peeked, events: &mut [u8], out: 
     requires { ⌜ Seen (now text) token ⌝ }
     ensures { λ r. ⌜ ((c : Bool) (at l depth start : ℕ) → Front (now (text .entry)) at token → Outcome c (now (text .entry)) (fields depth start ∷ []) (deeper depth ∷ close 10 (token .start) ∷ fields depth start ∷ []) l at (now (events .entry)) out (now (events .exit)) r) ⌝ }
 {
-    let opened = parser::put_open(events, out, 10, token.start);
-    let named = parser::put_leaf(events, opened, 1, token);
+    let opened = parser::put_open(events, out, node::OBJECT_FIELD, token.start);
+    let named = parser::put_leaf(events, opened, node::NAME, token);
     colon(text, items, token.next, events, named)
 }
 
@@ -198,7 +201,7 @@ fn object_field(
             if depth == 0 {
                 let t = parser::peek_token(text, items, next);
                 return Step::Stop {
-                    number: 7,
+                    number: refusal::TOO_DEEP,
                     place: t.start,
                 };
             }
@@ -211,7 +214,7 @@ fn object_field(
                 } => Step::Done {
                     next: n,
                     end,
-                    out: parser::put_close(events, q, 10, token.start, end),
+                    out: parser::put_close(events, q, node::OBJECT_FIELD, token.start, end),
                 },
             }
         }
@@ -234,21 +237,21 @@ fn object_value(
     ensures { λ r. ⌜ ((at l : ℕ) → Front (now (text .entry)) at token → Outcome constant (now (text .entry)) (valueDue depth ∷ []) [] l at (now (events .entry)) out (now (events .exit)) r) ⌝ }
 {
     let start = token.start;
-    let mut o = open_with(9, token, events, out);
+    let mut o = open_with(node::OBJECT_VALUE, token, events, out);
     let mut i = token.next;
     loop {
         let t = parser::peek_token(text, items, i);
         let kind = t.kind;
-        if kind == 17 {
+        if kind == item::R_CURLY {
             return Step::Done {
                 next: t.next,
                 end: t.start + t.size,
-                out: close_with(9, start, t, events, o),
+                out: close_with(node::OBJECT_VALUE, start, t, events, o),
             };
         }
         if !is_name(kind) {
             return Step::Stop {
-                number: 9,
+                number: refusal::NO_SENTENCE,
                 place: t.start,
             };
         }

@@ -18,7 +18,7 @@ pub fn variable(text: &[u8], items: &[u8], token: Peeked, events: &mut [u8], out
     requires { ⌜ Seen (now text) token ⌝ }
     ensures { λ r. ⌜ ((at l depth : ℕ) → Front (now (text .entry)) at token → Outcome false (now (text .entry)) (valueDue depth ∷ []) [] l at (now (events .entry)) out (now (events .exit)) r) ⌝ }
 {
-    let opened = open_with(11, token, events, out);
+    let opened = open_with(codes::node::VARIABLE, token, events, out);
     match name(text, items, token.next, events, opened) {
         Step::Stop { number, place } => Step::Stop { number, place },
         Step::Done {
@@ -28,7 +28,7 @@ pub fn variable(text: &[u8], items: &[u8], token: Peeked, events: &mut [u8], out
         } => Step::Done {
             next,
             end,
-            out: parser::put_close(events, named, 11, token.start, end),
+            out: parser::put_close(events, named, codes::node::VARIABLE, token.start, end),
         },
     }
 }
