@@ -7,6 +7,8 @@ use lib.Dec.{ltb, leb, eqb}
 use lib.ListN.{length}
 use Rattle.base.specs.Text.{pick}
 use Rattle.base.specs.Item.{Item}
+use Rattle.codes.specs.ItemCodes as codes
+pub use Rattle.codes.specs.Bounds.{deepest}
 use Rattle.tape.specs.Entry.{room, entries, over}
 use Rattle.rules.specs.Items.{items as itemsOf}
 use Rattle.reader.specs.declared.Answer.{Answer}
@@ -25,13 +27,9 @@ readOf Constant d ts = readConstant d ts
 readOf Ty d ts = readType d ts
 readOf SelectionSet d ts = readSelectionSet d ts
 
--- the largest depth limit
-abbrev pub deepest : ℕ
-deepest = 500
-
 -- "64 + error"
 unfoldable pub isError : Item → Bool
-isError x = leb 64 (x .code)
+isError x = leb codes.errors (x .code)
 
 -- the number of the first error item, counted from 0; how many items there are, if none is an error
 unfoldable pub firstError : List Item → ℕ

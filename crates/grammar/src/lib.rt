@@ -6,6 +6,7 @@ use reader::Answer;
 ghost use mathlib.Core.Path.{_≡_};
 ghost use Prim.Native.Nat.{_≤_};
 ghost use lib.ListN.{length};
+ghost use Rattle.codes.specs.Bounds.{deepest};
 ghost use Rattle.tape.specs.Entry.{room};
 ghost use Rattle.rules.specs.Items.{items as itemsOf};
 ghost use Rattle.syntax.specs.Words.{tokens};
@@ -24,7 +25,7 @@ pub enum Entry {
 // Reads what the entry names, from the first item on.
 fn begin(entry: Entry, text: &[u8], items: &[u8], depth: usize, events: &mut [u8]) -> Step
     requires { ⌜ Holds (now text) (now items) ⌝ }
-    requires { ⌜ depth ≤ 500 ⌝ }
+    requires { ⌜ depth ≤ deepest ⌝ }
     ensures { λ r. ⌜ Begins (readOf entry depth (tokens (now (text .entry)))) (now (text .entry)) (now (events .entry)) (now (events .exit)) r ⌝ }
 {
     match entry {
@@ -45,7 +46,7 @@ fn begin(entry: Entry, text: &[u8], items: &[u8], depth: usize, events: &mut [u8
 // Reads what the entry names, and then Eof.
 fn parse(entry: Entry, text: &[u8], items: &[u8], depth: usize, events: &mut [u8]) -> Step
     requires { ⌜ Holds (now text) (now items) ⌝ }
-    requires { ⌜ depth ≤ 500 ⌝ }
+    requires { ⌜ depth ≤ deepest ⌝ }
     ensures { λ r. ⌜ Parses (readOf entry depth (tokens (now (text .entry)))) (now (events .entry)) (now (events .exit)) r ⌝ }
 {
     match begin(entry, text, items, depth, events) {
@@ -73,7 +74,7 @@ fn parse_twice(
     events: &mut [u8],
 ) -> Answer
     requires { ⌜ Holds (now text) (now items) ⌝ }
-    requires { ⌜ depth ≤ 500 ⌝ }
+    requires { ⌜ depth ≤ deepest ⌝ }
     ensures answer { λ r. ⌜ r ≡ readAnswer (length (now (text .entry))) count (room (now (events .entry))) (readOf entry depth (tokens (now (text .entry)))) ⌝ }
     ensures events { λ _. ⌜ now (events .exit) ≡ countedEvents (now (events .entry)) (readOf entry depth (tokens (now (text .entry)))) ⌝ }
 {

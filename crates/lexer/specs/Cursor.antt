@@ -5,6 +5,7 @@ use mathlib.Core.List.{List, [], _∷_}
 use lib.Dec.{eqb, ltb}
 use lib.ListN.{length, drop}
 use Rattle.base.specs.Text.{pick}
+use Rattle.codes.specs.ItemCodes as codes
 use Rattle.rules.specs.Faults.{stringScan}
 use Rattle.rules.specs.StringAt.{last}
 use Rattle.rules.specs.Items.{itemAt}
@@ -52,6 +53,6 @@ eofTokenOf c kind size = pick (eqb (c .err) 0) (tokenOf c kind size) (errorOf c 
 -- by the code that the text's end gives in a state: a token, unless a fault is kept; or an error
 unfoldable pub eofOf : Cursor → State → ℕ → Advanced
 eofOf c s size =
-    pick (eqb (endOf s) 0) (tokenOf c 0 size)
-    (pick (ltb (endOf s) 64) (eofTokenOf c (endOf s) size)
-    (errorOf c (endOf s - 64) size))
+    pick (eqb (endOf s) 0) (tokenOf c codes.eof size)
+    (pick (ltb (endOf s) codes.errors) (eofTokenOf c (endOf s) size)
+    (errorOf c (endOf s - codes.errors) size))

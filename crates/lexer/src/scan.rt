@@ -14,6 +14,7 @@ ghost use Rattle.rules.specs.Classes.{digit, nameStart, nameContinue, notLineEn
 ghost use Rattle.rules.specs.Tokens.{blankBy, blank, blanks};
 ghost use Rattle.rules.specs.Items.{itemAt};
 ghost use Rattle.base.specs.Item.{lexeme};
+ghost use Rattle.codes.specs.ItemCodes as codes;
 ghost use Rattle.lookup.specs.Class.{classOf};
 ghost use Rattle.lexer.specs.Scan.{endOf, lexedOf, meaning};
 
@@ -84,7 +85,7 @@ fn blank_run(s: &[u8]) -> usize
 // A token of n bytes that ends before a byte that does not belong to it, or at the text's end.
 fn ends(rest: &[u8], kind: u8, state: State, n: usize) -> Scan
     requires { ⌜ endOf state ≡ kind ⌝ }
-    requires { ⌜ kind < 64 ⌝ }
+    requires { ⌜ kind < codes.errors ⌝ }
     ensures { λ r. ⌜ meaning r ≡ lexedOf (lexeme kind n) ⌝ }
 {
     if n == rest.len() {
@@ -162,7 +163,7 @@ fn spread_operator(rest: &[u8]) -> Scan
 // The first byte begins no token, unless it begins U+FEFF.
 fn other(rest: &[u8]) -> Scan
     requires { ⌜ 0 < length (now rest) ⌝ }
-    requires { ⌜ classOf (getD (now rest) 0 0) ≡ 0 ⌝ }
+    requires { ⌜ classOf (getD (now rest) 0 0) ≡ codes.eof ⌝ }
     ensures { λ r. ⌜ meaning r ≡ lexedOf (itemAt (now (rest .entry))) ⌝ }
 {
     if blank_at(rest) == 0 {

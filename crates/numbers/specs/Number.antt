@@ -6,6 +6,7 @@ use mathlib.Core.List.{List, [], _∷_}
 use lib.Dec.{eqb}
 use Rattle.base.specs.Text.{pick}
 use Rattle.base.specs.Item.{Lexeme, lexeme}
+use Rattle.codes.specs.ItemCodes as codes
 use Rattle.utf8.specs.Sequence as utf8
 use Rattle.rules.specs.Classes.{digit, nameStart, exponentMark}
 use Rattle.numbers.specs.declared.NumberState.{NumberState}
@@ -17,24 +18,24 @@ use Rattle.numbers.specs.declared.NumberScan.the-variants as scan
 
 -- the code of the item that the text's end leaves of a number: 8 after `-`, 9 where a float lacks a digit
 abbrev pub endOf : NumberState → ℕ
-endOf MinusSign = 64 + 8
-endOf LeadingZero = 20
-endOf IntegerPart = 20
-endOf DecimalPoint = 64 + 9
-endOf FractionalPart = 21
-endOf ExponentIndicator = 64 + 9
-endOf ExponentSign = 64 + 9
-endOf ExponentDigit = 21
+endOf MinusSign = codes.error 8
+endOf LeadingZero = codes.int
+endOf IntegerPart = codes.int
+endOf DecimalPoint = codes.error 9
+endOf FractionalPart = codes.float
+endOf ExponentIndicator = codes.error 9
+endOf ExponentSign = codes.error 9
+endOf ExponentDigit = codes.float
 
 -- the item that was found
 abbrev pub meaning : NumberScan → Lexeme
 meaning (scan.Done kind size) = lexeme kind size
-meaning (scan.Error fault size) = lexeme (64 + fault) size
+meaning (scan.Error fault size) = lexeme (codes.error fault) size
 meaning (scan.Eof state size) = lexeme (endOf state) size
 
 -- what ends before a byte is a token, not an error
 abbrev pub IsToken : NumberScan → Type 0
-IsToken (scan.Done kind size) = kind < 64
+IsToken (scan.Done kind size) = kind < codes.errors
 IsToken (scan.Error fault size) = Unit {0}
 IsToken (scan.Eof state size) = Unit {0}
 
@@ -76,20 +77,20 @@ stepOf s b = pick (digit b) (digitStep s b) (otherStep s b)
 
 -- the code of a number that ends before a byte
 unfoldable pub kindOf : NumberState → ℕ
-kindOf MinusSign = 20
-kindOf LeadingZero = 20
-kindOf IntegerPart = 20
-kindOf DecimalPoint = 20
-kindOf FractionalPart = 21
-kindOf ExponentIndicator = 20
-kindOf ExponentSign = 20
-kindOf ExponentDigit = 21
+kindOf MinusSign = codes.int
+kindOf LeadingZero = codes.int
+kindOf IntegerPart = codes.int
+kindOf DecimalPoint = codes.int
+kindOf FractionalPart = codes.float
+kindOf ExponentIndicator = codes.int
+kindOf ExponentSign = codes.int
+kindOf ExponentDigit = codes.float
 
 -- what a step makes of a number of which n bytes led to the state s, where r follows them; k reads on
 abbrev pub scanBy : NumberStep → NumberState → (n : ℕ) → List ℕ → (NumberState → Lexeme) → Lexeme
 scanBy (Go next) s n r k = k next
 scanBy Done s n r k = lexeme (kindOf s) n
-scanBy (Error fault) s n r k = lexeme (64 + fault) (n + utf8.size r)
+scanBy (Error fault) s n r k = lexeme (codes.error fault) (n + utf8.size r)
 
 -- the item of a number of which n bytes led to the state s, and what follows them
 unfoldable pub scanFrom : NumberState → (n : ℕ) → List ℕ → Lexeme

@@ -3,6 +3,8 @@ use Prim.Native.Nat.{ℕ, _+_, _≤_, _<_}
 use mathlib.Core.Path.{_≡_}
 use mathlib.Core.List.{List, _∷_}
 use lib.ListN.{length, drop, getD}
+use Rattle.codes.specs.ItemCodes as codes
+use Rattle.codes.specs.Bounds.{longest}
 use Rattle.tape.specs.Entry.{room, entryOf}
 use Rattle.tiles.specs.Tiles.{eof}
 use Rattle.rules.specs.Items.{items}
@@ -14,7 +16,7 @@ use Rattle.parser.specs.declared.Peeked.{Peeked}
 
 -- the tape holds the items of the text t, which is not too long
 pub record Holds (t tape : List ℕ) : Type 0 where
-  pub short : length t ≤ 16777216
+  pub short : length t ≤ longest
   pub roomy : length (items t) ≤ room tape
   pub entries : (i : ℕ) → i < length (items t) → entryOf tape i ≡ getD (items t) i (eof 0)
 
@@ -34,7 +36,7 @@ pub record Front (t : List ℕ) (at : ℕ) (r : Peeked) : Type 0 where
   pub first : rest t at ≡ tokenOf r ∷ rest t (r .next)
   pub ahead : at < r .next
   -- unless it is Eof, an item follows
-  pub inside : (r .kind ≡ 0 → ⊥) → r .next < length (items t)
+  pub inside : (r .kind ≡ codes.eof → ⊥) → r .next < length (items t)
   pub fits : r .start + r .size ≤ length t
 
 -- r is the first token of t from some item on

@@ -8,8 +8,9 @@ ghost use Rattle.base.specs.Text.{pick};
 ghost use mathlib.Core.List.{[], _∷_, _++_};
 ghost use lib.ListN.{length};
 ghost use Rattle.base.specs.Item.{item};
+ghost use Rattle.codes.specs.EventCodes as nodes;
 ghost use Rattle.rules.specs.Items.{items as itemsOf};
-ghost use Rattle.syntax.specs.Token.{tokenEvent, opens, closes, leaf, nameEvents, endOf};
+ghost use Rattle.syntax.specs.Token.{plain, wordTrue, tokenEvent, opens, closes, leaf, nameEvents, endOf};
 ghost use Rattle.syntax.specs.Words.{same, wordOf, ignored};
 ghost use Rattle.parser.specs.View.{Holds, Front, tokenOf, kindOf};
 ghost use Rattle.parser.specs.Events.{store, Puts};
@@ -172,7 +173,7 @@ pub fn put_close(events: &mut [u8], out: usize, node: u8, start: usize, end: usi
 // The code of a token's event, by the token's kind.
 fn event_code(kind: u8) -> u8
     requires { ⌜ kind < 26 ⌝ }
-    ensures { λ r. ⌜ r ≡ 128 + pick (leb 22 kind) 18 kind ⌝ }
+    ensures { λ r. ⌜ r ≡ nodes.holding (pick (leb wordTrue kind) plain kind) ⌝ }
 {
     if kind >= TRUE {
         return NAME_TOKEN;

@@ -6,6 +6,7 @@ use lib.Dec.{ltb, leb}
 use lib.ListN.{length, take, getD}
 use Rattle.base.specs.Text.{pick}
 use Rattle.base.specs.Item.{Item}
+pub use Rattle.codes.specs.Bounds.{longest}
 use Rattle.utf8.specs.declared.Checked.{Checked}
 use Rattle.utf8.specs.declared.Checked.the-variants.{Whole, Refused}
 use Rattle.utf8.specs.Answers.{checkedOf}
@@ -17,10 +18,6 @@ use Rattle.reader.specs.declared.Answer.{Answer}
 -- "Each answer has a number (0 done), a place in bytes, an item count and an event count"
 abbrev pub answer : (number place items events : ℕ) → Answer
 answer number place items events = record { number = number; place = place; items = items; events = events }
-
--- the longest text that is read, in bytes
-abbrev pub longest : ℕ
-longest = 16777216
 
 -- the first unread byte after n items: where item number n, counted from 0, starts
 abbrev pub unread : ℕ → List Item → ℕ

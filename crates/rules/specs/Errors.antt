@@ -7,6 +7,7 @@ use mathlib.Core.Bool.{true, false, _||_}
 use lib.Dec.{eqb}
 use lib.ListN.{length}
 use Rattle.base.specs.Text.{Class, starts, empty, Optional}
+use Rattle.codes.specs.ItemCodes as codes
 use Rattle.utf8.specs.Sequence as utf8
 use Rattle.rules.specs.Classes.{digit, nameStart, exponentMark, sign, point, pointOrName}
 use Rattle.rules.specs.Rules.{IntegerPart, FractionalPart, ExponentPart, Rule}
@@ -70,4 +71,4 @@ pub data Fault : (error : ℕ) → List ℕ → (size : ℕ) → Type 0 where
 -- `Stands k t n`: at the front of the text t stands an item of code k, and it has n bytes: a token, or an error, whose code is 64 + error
 pub data Stands : (code : ℕ) → List ℕ → (size : ℕ) → Type 0 where
   token : {k n : ℕ} {t : List ℕ} → Rule k t n → Stands k t n
-  error : {k n : ℕ} {t : List ℕ} → Fault k t n → Stands (64 + k) t n
+  error : {k n : ℕ} {t : List ℕ} → Fault k t n → Stands (codes.error k) t n

@@ -9,6 +9,7 @@ use Rattle.base.specs.Text.{pick, Class, starts}
 use Rattle.base.specs.Item.{Lexeme, lexeme}
 use Rattle.base.specs.Run.{run}
 use Rattle.base.specs.Span.{span}
+use Rattle.codes.specs.ItemCodes as codes
 use Rattle.rules.specs.StringAt.{stringAt}
 use Rattle.rules.specs.Classes.{digit, nonzero, nameStart, nameContinue, notLineEnd, exponentMark, sign, afterNumber}
 
@@ -70,7 +71,7 @@ numberBy k t =
     k i f e (drop e v)
 
 unfoldable pub numberToken : (i f e : ℕ) → List ℕ → Option Lexeme
-numberToken i f e r = pick (eqb i 0 || starts afterNumber r) none (some (lexeme (pick (eqb (f + e) 0) 20 21) (i + (f + e))))
+numberToken i f e r = pick (eqb i 0 || starts afterNumber r) none (some (lexeme (pick (eqb (f + e) 0) codes.int codes.float) (i + (f + e))))
 
 abbrev pub numberAt : List ℕ → Option Lexeme
 numberAt t = numberBy numberToken t
@@ -78,36 +79,36 @@ numberAt t = numberBy numberToken t
 -- the punctuator that the byte is
 unfoldable pub punctuatorAt : ℕ → Option Lexeme
 punctuatorAt b =
-    pick (eqb b 44) (some (lexeme 3 1))
-    (pick (eqb b 33) (some (lexeme 4 1))
-    (pick (eqb b 36) (some (lexeme 5 1))
-    (pick (eqb b 38) (some (lexeme 6 1))
-    (pick (eqb b 40) (some (lexeme 7 1))
-    (pick (eqb b 41) (some (lexeme 8 1))
-    (pick (eqb b 58) (some (lexeme 10 1))
-    (pick (eqb b 61) (some (lexeme 11 1))
-    (pick (eqb b 64) (some (lexeme 12 1))
-    (pick (eqb b 91) (some (lexeme 13 1))
-    (pick (eqb b 93) (some (lexeme 14 1))
-    (pick (eqb b 123) (some (lexeme 15 1))
-    (pick (eqb b 124) (some (lexeme 16 1))
-    (pick (eqb b 125) (some (lexeme 17 1)) none)))))))))))))
+    pick (eqb b 44) (some (lexeme codes.comma 1))
+    (pick (eqb b 33) (some (lexeme codes.bang 1))
+    (pick (eqb b 36) (some (lexeme codes.dollar 1))
+    (pick (eqb b 38) (some (lexeme codes.amp 1))
+    (pick (eqb b 40) (some (lexeme codes.parenL 1))
+    (pick (eqb b 41) (some (lexeme codes.parenR 1))
+    (pick (eqb b 58) (some (lexeme codes.colon 1))
+    (pick (eqb b 61) (some (lexeme codes.equals 1))
+    (pick (eqb b 64) (some (lexeme codes.at 1))
+    (pick (eqb b 91) (some (lexeme codes.bracketL 1))
+    (pick (eqb b 93) (some (lexeme codes.bracketR 1))
+    (pick (eqb b 123) (some (lexeme codes.braceL 1))
+    (pick (eqb b 124) (some (lexeme codes.pipe 1))
+    (pick (eqb b 125) (some (lexeme codes.braceR 1)) none)))))))))))))
 
 unfoldable pub spreadAt : List ℕ → Option Lexeme
-spreadAt t = pick (eqb (getD t 0 0) 46) (pick (eqb (getD t 1 0) 46) (pick (eqb (getD t 2 0) 46) (some (lexeme 9 3)) none) none) none
+spreadAt t = pick (eqb (getD t 0 0) 46) (pick (eqb (getD t 1 0) 46) (pick (eqb (getD t 2 0) 46) (some (lexeme codes.dots 3)) none) none) none
 
 -- a StringValue, where a quote stands at the front
 unfoldable pub stringToken : List ℕ → Option Lexeme
-stringToken t = pick (eqb (stringAt t .code) 19) (some (stringAt t)) none
+stringToken t = pick (eqb (stringAt t .code) codes.string) (some (stringAt t)) none
 
 -- the byte at the front tells which rule can hold: the classes first, then the single bytes
 unfoldable pub tokenAt : List ℕ → Option Lexeme
 tokenAt [] = none
 tokenAt (b ∷ t) =
     pick (digit b || eqb b 45) (numberAt (b ∷ t))
-    (pick (nameStart b) (some (lexeme 18 (suc (run nameContinue t))))
+    (pick (nameStart b) (some (lexeme codes.name (suc (run nameContinue t))))
     (pick (eqb b 34) (stringToken (b ∷ t))
-    (pick (eqb b 35) (some (lexeme 2 (suc (run notLineEnd t))))
+    (pick (eqb b 35) (some (lexeme codes.comment (suc (run notLineEnd t))))
     (pick (eqb b 46) (spreadAt (b ∷ t))
     (pick (eqb (blanks (b ∷ t)) 0) (punctuatorAt b)
-    (some (lexeme 1 (blanks (b ∷ t)))))))))
+    (some (lexeme codes.whitespace (blanks (b ∷ t)))))))))

@@ -11,6 +11,7 @@ ghost use mathlib.Core.Path.{_≡_};
 ghost use mathlib.Core.Bool.{true, false};
 ghost use mathlib.Core.List.{[], _∷_};
 ghost use Prim.Native.Nat.{ℕ};
+ghost use Rattle.codes.specs.ItemCodes as codes;
 ghost use Rattle.syntax.specs.Token.{isName};
 ghost use Rattle.syntax.specs.Machine.{optArguments, arguments as argumentsDue};
 ghost use Rattle.parser.specs.View.{Holds, Front, Seen};
@@ -51,7 +52,7 @@ fn arguments(
     out: usize,
 ) -> Step
     requires { ⌜ Holds (now text) (now items) ⌝ }
-    requires { ⌜ token .kind ≡ 7 ⌝ }
+    requires { ⌜ token .kind ≡ codes.parenL ⌝ }
     requires { ⌜ Seen (now text) token ⌝ }
     ensures { λ r. ⌜ ((at l : ℕ) → Front (now (text .entry)) at token → Outcome false (now (text .entry)) (optArguments depth ∷ []) [] l at (now (events .entry)) out (now (events .exit)) r) ⌝ }
 {

@@ -10,6 +10,7 @@ ghost use mathlib.Core.Path.{_≡_};
 ghost use mathlib.Core.Bool.{false};
 ghost use mathlib.Core.List.{[], _∷_};
 ghost use Prim.Native.Nat.{ℕ, _^_, _<_};
+ghost use Rattle.codes.specs.ItemCodes as codes;
 ghost use Rattle.syntax.specs.Machine.{optDirectives, directives as directivesDue};
 ghost use Rattle.parser.specs.declared.Step.the-variants.{Done};
 ghost use Rattle.parser.specs.View.{Holds, Front, Seen};
@@ -25,7 +26,7 @@ pub fn directive(
     out: usize,
 ) -> Step
     requires { ⌜ Holds (now text) (now items) ⌝ }
-    requires { ⌜ token .kind ≡ 12 ⌝ }
+    requires { ⌜ token .kind ≡ codes.at ⌝ }
     requires { ⌜ Seen (now text) token ⌝ }
     ensures { λ r. ⌜ ((at l start : ℕ) → Front (now (text .entry)) at token → Outcome false (now (text .entry)) (directivesDue depth start ∷ []) (directivesDue depth start ∷ []) l at (now (events .entry)) out (now (events .exit)) r) ⌝ }
 {

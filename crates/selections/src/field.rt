@@ -12,6 +12,8 @@ ghost use mathlib.Core.Path.{_≡_};
 ghost use mathlib.Core.Bool.{Bool, true, false};
 ghost use mathlib.Core.List.{[], _∷_, _++_};
 ghost use Prim.Native.Nat.{ℕ, _+_, _^_, _<_};
+ghost use Rattle.codes.specs.EventCodes as nodes;
+ghost use Rattle.codes.specs.ItemCodes as codes;
 ghost use Rattle.syntax.specs.Token.{isName, endOf, opens, closes, nameEvents, tokenEvent};
 ghost use Rattle.syntax.specs.Machine.{named as namedDue, optArguments, optDirectives, optSelectionSet, close};
 ghost use Rattle.parser.specs.declared.Step.the-variants.{Done};
@@ -26,7 +28,7 @@ fn alias(token: Peeked, colon: Peeked, events: &mut [u8], out: usize) -> usize
     requires { ⌜ token .start + token .size < 2 ^ 28 ⌝ }
     requires { ⌜ colon .kind < 26 ⌝ }
     requires { ⌜ colon .start + colon .size < 2 ^ 28 ⌝ }
-    ensures { λ r. ⌜ Puts (now (events .entry)) out (now (events .exit)) r (opens 17 (token .start) ∷ (nameEvents (tokenOf token) ++ (tokenEvent (tokenOf colon) ∷ closes 17 (token .start) (endOf (tokenOf colon)) ∷ []))) ⌝ }
+    ensures { λ r. ⌜ Puts (now (events .entry)) out (now (events .exit)) r (opens nodes.alias (token .start) ∷ (nameEvents (tokenOf token) ++ (tokenEvent (tokenOf colon) ∷ closes nodes.alias (token .start) (endOf (tokenOf colon)) ∷ []))) ⌝ }
 {
     let opened = parser::put_open(events, out, node::ALIAS, token.start);
     let named = parser::put_leaf(events, opened, node::NAME, token);
@@ -38,7 +40,7 @@ fn field_head(text: &[u8], items: &[u8], token: Peeked, events: &mut [u8], out: 
     requires { ⌜ Holds (now text) (now items) ⌝ }
     requires { ⌜ isName (token .kind) ≡ true ⌝ }
     requires { ⌜ Seen (now text) token ⌝ }
-    ensures { λ r. ⌜ ((c : Bool) (depth : ℕ) → Goes c (now (text .entry)) (namedDue depth (tokenOf token) ∷ []) (optArguments depth ∷ optDirectives depth ∷ optSelectionSet depth ∷ close 16 (token .start) ∷ []) (now (events .entry)) (now (events .exit)) (Done (token .next) (token .start + token .size) out) r) ⌝ }
+    ensures { λ r. ⌜ ((c : Bool) (depth : ℕ) → Goes c (now (text .entry)) (namedDue depth (tokenOf token) ∷ []) (optArguments depth ∷ optDirectives depth ∷ optSelectionSet depth ∷ close nodes.field (token .start) ∷ []) (now (events .entry)) (now (events .exit)) (Done (token .next) (token .start + token .size) out) r) ⌝ }
 {
     let opened = parser::put_open(events, out, node::FIELD, token.start);
     let colon = parser::peek_token(text, items, token.next);
@@ -69,7 +71,7 @@ fn field_parts(
     requires { ⌜ Holds (now text) (now items) ⌝ }
     requires { ⌜ isName (token .kind) ≡ true ⌝ }
     requires { ⌜ Seen (now text) token ⌝ }
-    ensures { λ r. ⌜ Goes false (now (text .entry)) (namedDue depth (tokenOf token) ∷ []) (optSelectionSet depth ∷ close 16 (token .start) ∷ []) (now (events .entry)) (now (events .exit)) (Done (token .next) (token .start + token .size) out) r ⌝ }
+    ensures { λ r. ⌜ Goes false (now (text .entry)) (namedDue depth (tokenOf token) ∷ []) (optSelectionSet depth ∷ close nodes.field (token .start) ∷ []) (now (events .entry)) (now (events .exit)) (Done (token .next) (token .start + token .size) out) r ⌝ }
 {
     let head = field_head(text, items, token, events, out);
     let given = then_arguments(text, items, head, depth, events);
@@ -80,7 +82,7 @@ fn field_parts(
 fn brace_follows(text: &[u8], items: &[u8], step: Step) -> bool
     requires { ⌜ Holds (now text) (now items) ⌝ }
     requires { ⌜ Ready (now text) step ⌝ }
-    ensures { λ r. ⌜ r ≡ follows 15 (now (text .entry)) step ⌝ }
+    ensures { λ r. ⌜ r ≡ follows codes.braceL (now (text .entry)) step ⌝ }
 {
     match step {
         Step::Stop {

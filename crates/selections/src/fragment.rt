@@ -9,7 +9,9 @@ ghost use mathlib.Core.Path.{_≡_};
 ghost use mathlib.Core.Bool.{Bool, true, false};
 ghost use mathlib.Core.List.{[], _∷_, _++_};
 ghost use Prim.Native.Nat.{ℕ, _+_, _^_, _<_};
-ghost use Rattle.syntax.specs.Token.{isFragmentName, endOf, opens, closes, nameEvents, tokenEvent};
+ghost use Rattle.codes.specs.EventCodes as nodes;
+ghost use Rattle.codes.specs.ItemCodes as codes;
+ghost use Rattle.syntax.specs.Token.{wordOn, isFragmentName, endOf, opens, closes, nameEvents, tokenEvent};
 ghost use Rattle.syntax.specs.Machine.{spread, namedType, optDirectives, selectionSet, close};
 ghost use Rattle.parser.specs.declared.Step.the-variants.{Done};
 ghost use Rattle.parser.specs.View.{Holds, Front, Seen, tokenOf};
@@ -30,7 +32,7 @@ pub fn is_fragment_name(kind: u8) -> bool
 fn fragment_name(token: Peeked, events: &mut [u8], out: usize) -> usize
     requires { ⌜ token .kind < 26 ⌝ }
     requires { ⌜ token .start + token .size < 2 ^ 28 ⌝ }
-    ensures { λ r. ⌜ Puts (now (events .entry)) out (now (events .exit)) r (opens 23 (token .start) ∷ (nameEvents (tokenOf token) ++ (closes 23 (token .start) (endOf (tokenOf token)) ∷ []))) ⌝ }
+    ensures { λ r. ⌜ Puts (now (events .entry)) out (now (events .exit)) r (opens nodes.fragmentName (token .start) ∷ (nameEvents (tokenOf token) ++ (closes nodes.fragmentName (token .start) (endOf (tokenOf token)) ∷ []))) ⌝ }
 {
     parser::put_named(events, out, node::FRAGMENT_NAME, token)
 }
@@ -46,7 +48,7 @@ pub fn fragment_spread(
     out: usize,
 ) -> Step
     requires { ⌜ Holds (now text) (now items) ⌝ }
-    requires { ⌜ dots .kind ≡ 9 ⌝ }
+    requires { ⌜ dots .kind ≡ codes.dots ⌝ }
     requires { ⌜ Seen (now text) dots ⌝ }
     requires { ⌜ isFragmentName (token .kind) ≡ true ⌝ }
     requires { ⌜ Front (now text) (dots .next) token ⌝ }
@@ -65,9 +67,9 @@ pub fn fragment_spread(
 // A type condition, whose `on` is the token: a NAMED_TYPE follows.
 fn type_condition(text: &[u8], items: &[u8], token: Peeked, events: &mut [u8], out: usize) -> Step
     requires { ⌜ Holds (now text) (now items) ⌝ }
-    requires { ⌜ token .kind ≡ 25 ⌝ }
+    requires { ⌜ token .kind ≡ wordOn ⌝ }
     requires { ⌜ Seen (now text) token ⌝ }
-    ensures { λ r. ⌜ ((c : Bool) → Begun c (now (text .entry)) (opens 25 (token .start) ∷ tokenEvent (tokenOf token) ∷ []) (namedType ∷ close 25 (token .start) ∷ []) [] (token .next) (token .start + token .size) (now (events .entry)) out (now (events .exit)) r) ⌝ }
+    ensures { λ r. ⌜ ((c : Bool) → Begun c (now (text .entry)) (opens nodes.typeCondition (token .start) ∷ tokenEvent (tokenOf token) ∷ []) (namedType ∷ close nodes.typeCondition (token .start) ∷ []) [] (token .next) (token .start + token .size) (now (events .entry)) out (now (events .exit)) r) ⌝ }
 {
     let opened = values::token::open_with(node::TYPE_CONDITION, token, events, out);
     let named = types::ty::named_type(text, items, token.next, events, opened);
@@ -84,11 +86,11 @@ fn fragment_head(
     out: usize,
 ) -> Step
     requires { ⌜ Holds (now text) (now items) ⌝ }
-    requires { ⌜ dots .kind ≡ 9 ⌝ }
+    requires { ⌜ dots .kind ≡ codes.dots ⌝ }
     requires { ⌜ Seen (now text) dots ⌝ }
     requires { ⌜ isFragmentName (token .kind) ≡ false ⌝ }
     requires { ⌜ Front (now text) (dots .next) token ⌝ }
-    ensures { λ r. ⌜ ((c : Bool) (depth : ℕ) → Goes c (now (text .entry)) (spread depth (tokenOf dots) ∷ []) (optDirectives depth ∷ selectionSet depth ∷ close 24 (dots .start) ∷ []) (now (events .entry)) (now (events .exit)) (Done (dots .next) (dots .start + dots .size) out) r) ⌝ }
+    ensures { λ r. ⌜ ((c : Bool) (depth : ℕ) → Goes c (now (text .entry)) (spread depth (tokenOf dots) ∷ []) (optDirectives depth ∷ selectionSet depth ∷ close nodes.inlineFragment (dots .start) ∷ []) (now (events .entry)) (now (events .exit)) (Done (dots .next) (dots .start + dots .size) out) r) ⌝ }
 {
     let opened = values::token::open_with(node::INLINE_FRAGMENT, dots, events, out);
     if token.kind == parser::ON {
@@ -112,7 +114,7 @@ pub fn inline_fragment(
     out: usize,
 ) -> Step
     requires { ⌜ Holds (now text) (now items) ⌝ }
-    requires { ⌜ dots .kind ≡ 9 ⌝ }
+    requires { ⌜ dots .kind ≡ codes.dots ⌝ }
     requires { ⌜ Seen (now text) dots ⌝ }
     requires { ⌜ isFragmentName (token .kind) ≡ false ⌝ }
     requires { ⌜ Front (now text) (dots .next) token ⌝ }

@@ -11,6 +11,7 @@ ghost use mathlib.Core.Path.{_≡_};
 ghost use mathlib.Core.Bool.{true, false};
 ghost use mathlib.Core.List.{[], _∷_};
 ghost use Prim.Native.Nat.{ℕ};
+ghost use Rattle.codes.specs.ItemCodes as codes;
 ghost use Rattle.syntax.specs.Machine.{selectionSet, selections as selectionsDue};
 ghost use Rattle.parser.specs.View.{Holds, Front, Seen};
 ghost use Rattle.parser.specs.Promise.{Outcome, Ready, Goes};
@@ -60,7 +61,7 @@ fn selection_set(
     out: usize,
 ) -> Step
     requires { ⌜ Holds (now text) (now items) ⌝ }
-    requires { ⌜ token .kind ≡ 15 ⌝ }
+    requires { ⌜ token .kind ≡ codes.braceL ⌝ }
     requires { ⌜ Seen (now text) token ⌝ }
     ensures { λ r. ⌜ ((at l : ℕ) → Front (now (text .entry)) at token → Outcome false (now (text .entry)) (selectionSet depth ∷ []) [] l at (now (events .entry)) out (now (events .exit)) r) ⌝ }
 {

@@ -7,6 +7,7 @@ use mathlib.Core.List.{List, [], _∷_}
 use lib.Dec.{eqb, ltb}
 use Rattle.base.specs.Text.{pick}
 use Rattle.base.specs.Run.{run}
+use Rattle.codes.specs.ItemCodes as codes
 use Rattle.utf8.specs.Encode.{scalar}
 use Rattle.rules.specs.Classes.{lineEnd, escapedCharacter, plainCharacter, hexDigit, withDigit, leadSurrogate, trailSurrogate}
 use Rattle.rules.specs.Faults.{blockScan, stringScan}
@@ -19,14 +20,14 @@ use Rattle.strings.specs.declared.StringScan.{StringScan}
 
 -- the code of the item that the text's end leaves of a string: 11 for a lone quote, 12 for any other
 abbrev pub endOf : StringState → ℕ
-endOf StringLiteralStart = 64 + 11
-endOf StringLiteral = 64 + 12
-endOf StringLiteralBackslash = 64 + 12
-endOf (StringLiteralEscapedUnicode remaining value trail) = 64 + 12
-endOf (StringLiteralEscapedUnicodeVariable value digits) = 64 + 12
-endOf StringLiteralLeadSurrogate = 64 + 12
-endOf StringLiteralLeadSurrogateBackslash = 64 + 12
-endOf BlockStringLiteral = 64 + 12
+endOf StringLiteralStart = codes.error 11
+endOf StringLiteral = codes.error 12
+endOf StringLiteralBackslash = codes.error 12
+endOf (StringLiteralEscapedUnicode remaining value trail) = codes.error 12
+endOf (StringLiteralEscapedUnicodeVariable value digits) = codes.error 12
+endOf StringLiteralLeadSurrogate = codes.error 12
+endOf StringLiteralLeadSurrogateBackslash = codes.error 12
+endOf BlockStringLiteral = codes.error 12
 
 -- the number with one hex digit more, which stays at 110000 once there
 unfoldable pub capped : ℕ → ℕ → ℕ
@@ -139,4 +140,4 @@ pub record StringScans (kept : ℕ) (t : List ℕ) (r : StringScan) : Type 0 whe
   -- its last fault, or the kept one
   pub faults : r .fault ≡ last kept (stringScan t .faults)
   -- at the text's end: error 11 for a lone quote, else 12
-  pub ends : r .closed ≡ false → endOf (r .state) ≡ pick (eqb (r .size) 1) 75 76
+  pub ends : r .closed ≡ false → endOf (r .state) ≡ pick (eqb (r .size) 1) (codes.error 11) (codes.error 12)

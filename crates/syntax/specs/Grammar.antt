@@ -4,6 +4,7 @@ use Prim.Native.Nat.{ℕ, suc, max, _-_}
 use mathlib.Core.Bool.{Bool, true, false}
 use mathlib.Core.List.{List, [], _∷_, _++_}
 use Rattle.base.specs.Item.{Item}
+use Rattle.codes.specs.EventCodes as nodes
 use Rattle.syntax.specs.Token.{dollar, parenL, parenR, dots, colon, at, bracketL, bracketR, braceL, braceR, plain, string, int, float, wordTrue, wordFalse, wordNull, wordOn, Token, token, endOf, tokenEvent, opens, closes, leaf, nameEvents}
 
 -- where a token stands: its first byte, and how many bytes it has
@@ -126,19 +127,19 @@ abbrev mutual
 -- the events
 abbrev mutual
   pub valueEvents : {c : Bool} → Value c → List Item
-  valueEvents (variable d n) = node 11 (of dollar d ∷ nameToken n ∷ []) (tokenEvent (of dollar d) ∷ nameEvents (nameToken n))
-  valueEvents (intValue s) = leaf 2 (of int s)
-  valueEvents (floatValue s) = leaf 3 (of float s)
-  valueEvents (stringValue s) = leaf 4 (of string s)
-  valueEvents (trueValue s) = leaf 5 (of wordTrue s)
-  valueEvents (falseValue s) = leaf 5 (of wordFalse s)
-  valueEvents (nullValue s) = leaf 6 (of wordNull s)
-  valueEvents (enumValue w s) = node 7 (of (enumKind w) s ∷ []) (nameEvents (of (enumKind w) s))
+  valueEvents (variable d n) = node nodes.variable (of dollar d ∷ nameToken n ∷ []) (tokenEvent (of dollar d) ∷ nameEvents (nameToken n))
+  valueEvents (intValue s) = leaf nodes.intValue (of int s)
+  valueEvents (floatValue s) = leaf nodes.floatValue (of float s)
+  valueEvents (stringValue s) = leaf nodes.stringValue (of string s)
+  valueEvents (trueValue s) = leaf nodes.booleanValue (of wordTrue s)
+  valueEvents (falseValue s) = leaf nodes.booleanValue (of wordFalse s)
+  valueEvents (nullValue s) = leaf nodes.nullValue (of wordNull s)
+  valueEvents (enumValue w s) = node nodes.enumValue (of (enumKind w) s ∷ []) (nameEvents (of (enumKind w) s))
   valueEvents (listValue l vs r) =
-      node 8 (of bracketL l ∷ (valuesTokens vs ++ (of bracketR r ∷ [])))
+      node nodes.listValue (of bracketL l ∷ (valuesTokens vs ++ (of bracketR r ∷ [])))
       (tokenEvent (of bracketL l) ∷ (valuesEvents vs ++ (tokenEvent (of bracketR r) ∷ [])))
   valueEvents (objectValue l fs r) =
-      node 9 (of braceL l ∷ (fieldsTokens fs ++ (of braceR r ∷ [])))
+      node nodes.objectValue (of braceL l ∷ (fieldsTokens fs ++ (of braceR r ∷ [])))
       (tokenEvent (of braceL l) ∷ (fieldsEvents fs ++ (tokenEvent (of braceR r) ∷ [])))
 
   pub valuesEvents : {c : Bool} → Values c → List Item
@@ -148,7 +149,7 @@ abbrev mutual
   pub fieldsEvents : {c : Bool} → Fields c → List Item
   fieldsEvents noField = []
   fieldsEvents (aField n k v fs) =
-      node 10 (nameToken n ∷ of colon k ∷ valueTokens v) (nameEvents (nameToken n) ++ (tokenEvent (of colon k) ∷ valueEvents v)) ++ fieldsEvents fs
+      node nodes.objectField (nameToken n ∷ of colon k ∷ valueTokens v) (nameEvents (nameToken n) ++ (tokenEvent (of colon k) ∷ valueEvents v)) ++ fieldsEvents fs
 
 -- "Depth counts open list items, object field values, list types and selection sets together"
 abbrev mutual

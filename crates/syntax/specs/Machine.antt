@@ -7,6 +7,7 @@ use mathlib.Core.List.{List, [], _∷_, _++_}
 use lib.Dec.{eqb}
 use Rattle.base.specs.Text.{pick}
 use Rattle.base.specs.Item.{Item}
+use Rattle.codes.specs.EventCodes as nodes
 use Rattle.syntax.specs.Token.{eof, dollar, parenL, parenR, dots, colon, at, bracketL, bracketR, braceL, braceR, string, int, float, wordTrue, wordFalse, wordNull, wordOn, isName, isEnum, isFragmentName, Token, endOf, tokenEvent, opens, closes, leaf, nameEvents}
 
 -- What is due. Where a depth stands, it is what is left there; where a start stands, it is that of the node's first token.
@@ -64,17 +65,17 @@ also es (halt fs) = halt (es ++ fs)
 -- where a value is due. c: only a constant may stand there
 unfoldable pub atValue : (c : Bool) → (depth : ℕ) → List Sym → Token → Move
 atValue c r K t =
-    pick (eqb (t .kind) int) (go (leaf 2 t) K)
-    (pick (eqb (t .kind) float) (go (leaf 3 t) K)
-    (pick (eqb (t .kind) string) (go (leaf 4 t) K)
-    (pick (eqb (t .kind) wordTrue) (go (leaf 5 t) K)
-    (pick (eqb (t .kind) wordFalse) (go (leaf 5 t) K)
-    (pick (eqb (t .kind) wordNull) (go (leaf 6 t) K)
-    (pick (isEnum (t .kind)) (go (opens 7 (t .start) ∷ (nameEvents t ++ (closes 7 (t .start) (endOf t) ∷ []))) K)
-    (pick (eqb (t .kind) bracketL) (go (opens 8 (t .start) ∷ tokenEvent t ∷ []) (items r (t .start) ∷ K))
-    (pick (eqb (t .kind) braceL) (go (opens 9 (t .start) ∷ tokenEvent t ∷ []) (fields r (t .start) ∷ K))
+    pick (eqb (t .kind) int) (go (leaf nodes.intValue t) K)
+    (pick (eqb (t .kind) float) (go (leaf nodes.floatValue t) K)
+    (pick (eqb (t .kind) string) (go (leaf nodes.stringValue t) K)
+    (pick (eqb (t .kind) wordTrue) (go (leaf nodes.booleanValue t) K)
+    (pick (eqb (t .kind) wordFalse) (go (leaf nodes.booleanValue t) K)
+    (pick (eqb (t .kind) wordNull) (go (leaf nodes.nullValue t) K)
+    (pick (isEnum (t .kind)) (go (opens nodes.enumValue (t .start) ∷ (nameEvents t ++ (closes nodes.enumValue (t .start) (endOf t) ∷ []))) K)
+    (pick (eqb (t .kind) bracketL) (go (opens nodes.listValue (t .start) ∷ tokenEvent t ∷ []) (items r (t .start) ∷ K))
+    (pick (eqb (t .kind) braceL) (go (opens nodes.objectValue (t .start) ∷ tokenEvent t ∷ []) (fields r (t .start) ∷ K))
     (pick (eqb (t .kind) dollar)
-    (pick c (stop 8) (go (opens 11 (t .start) ∷ tokenEvent t ∷ []) (name ∷ close 11 (t .start) ∷ K)))
+    (pick c (stop 8) (go (opens nodes.variable (t .start) ∷ tokenEvent t ∷ []) (name ∷ close nodes.variable (t .start) ∷ K)))
     (stop 9))))))))))
 
 -- one level deeper: 7 where no depth is left, whatever stands there
@@ -85,13 +86,13 @@ atDeeper c (suc r) K t = atValue c r K t
 -- in a list value the depth is tested "only when the next token is neither `]` nor Eof"
 unfoldable pub atItems : Bool → (depth start : ℕ) → List Sym → Token → Move
 atItems c r s K t =
-    pick (eqb (t .kind) bracketR) (go (tokenEvent t ∷ closes 8 s (endOf t) ∷ []) K)
+    pick (eqb (t .kind) bracketR) (go (tokenEvent t ∷ closes nodes.listValue s (endOf t) ∷ []) K)
     (pick (eqb (t .kind) eof) (stop 9) (atDeeper c r (items r s ∷ K) t))
 
 unfoldable pub atFields : (depth start : ℕ) → List Sym → Token → Move
 atFields r s K t =
-    pick (eqb (t .kind) braceR) (go (tokenEvent t ∷ closes 9 s (endOf t) ∷ []) K)
-    (pick (isName (t .kind)) (go (opens 10 (t .start) ∷ nameEvents t) (colonDue ∷ deeper r ∷ close 10 (t .start) ∷ fields r s ∷ K))
+    pick (eqb (t .kind) braceR) (go (tokenEvent t ∷ closes nodes.objectValue s (endOf t) ∷ []) K)
+    (pick (isName (t .kind)) (go (opens nodes.objectField (t .start) ∷ nameEvents t) (colonDue ∷ deeper r ∷ close nodes.objectField (t .start) ∷ fields r s ∷ K))
     (stop 9))
 
 unfoldable pub atName : List Sym → Token → Move
@@ -101,11 +102,11 @@ unfoldable pub atColon : List Sym → Token → Move
 atColon K t = pick (eqb (t .kind) colon) (go (tokenEvent t ∷ []) K) (stop 9)
 
 unfoldable pub atNamedType : List Sym → Token → Move
-atNamedType K t = pick (isName (t .kind)) (go (opens 12 (t .start) ∷ (nameEvents t ++ (closes 12 (t .start) (endOf t) ∷ []))) K) (stop 9)
+atNamedType K t = pick (isName (t .kind)) (go (opens nodes.namedType (t .start) ∷ (nameEvents t ++ (closes nodes.namedType (t .start) (endOf t) ∷ []))) K) (stop 9)
 
 -- the `{` of a selection set; else m
 unfoldable pub orSelectionSet : (depth : ℕ) → List Sym → Token → Move → Move
-orSelectionSet r K t m = pick (eqb (t .kind) braceL) (go (opens 15 (t .start) ∷ tokenEvent t ∷ []) (firstSelection r (t .start) ∷ K)) m
+orSelectionSet r K t m = pick (eqb (t .kind) braceL) (go (opens nodes.selectionSet (t .start) ∷ tokenEvent t ∷ []) (firstSelection r (t .start) ∷ K)) m
 
 -- a field's first name, or a `...`; else m
 unfoldable pub orSelection : (depth : ℕ) → List Sym → Token → Move → Move
@@ -120,47 +121,47 @@ atFirstSelection (suc r) s K t = orSelection r (selections r s ∷ K) t (stop 9)
 
 unfoldable pub atSelections : (depth start : ℕ) → List Sym → Token → Move
 atSelections r s K t =
-    pick (eqb (t .kind) braceR) (go (tokenEvent t ∷ closes 15 s (endOf t) ∷ []) K)
+    pick (eqb (t .kind) braceR) (go (tokenEvent t ∷ closes nodes.selectionSet s (endOf t) ∷ []) K)
     (orSelection r (selections r s ∷ K) t (stop 9))
 
 -- what may follow a field's name
 abbrev pub afterName : (depth start : ℕ) → List Sym → List Sym
-afterName r s K = optArguments r ∷ optDirectives r ∷ optSelectionSet r ∷ close 16 s ∷ K
+afterName r s K = optArguments r ∷ optDirectives r ∷ optSelectionSet r ∷ close nodes.field s ∷ K
 
 unfoldable pub orArguments : (depth : ℕ) → List Sym → Token → Move → Move
-orArguments r K t m = pick (eqb (t .kind) parenL) (go (opens 18 (t .start) ∷ tokenEvent t ∷ []) (firstArgument r (t .start) ∷ K)) m
+orArguments r K t m = pick (eqb (t .kind) parenL) (go (opens nodes.arguments (t .start) ∷ tokenEvent t ∷ []) (firstArgument r (t .start) ∷ K)) m
 
 -- an argument's name; else m
 unfoldable pub orArgument : (depth start : ℕ) → List Sym → Token → Move → Move
 orArgument r s K t m =
-    pick (isName (t .kind)) (go (opens 19 (t .start) ∷ nameEvents t) (colonDue ∷ value r ∷ close 19 (t .start) ∷ arguments r s ∷ K)) m
+    pick (isName (t .kind)) (go (opens nodes.argument (t .start) ∷ nameEvents t) (colonDue ∷ value r ∷ close nodes.argument (t .start) ∷ arguments r s ∷ K)) m
 
 unfoldable pub atArguments : (depth start : ℕ) → List Sym → Token → Move
 atArguments r s K t =
-    pick (eqb (t .kind) parenR) (go (tokenEvent t ∷ closes 18 s (endOf t) ∷ []) K)
+    pick (eqb (t .kind) parenR) (go (tokenEvent t ∷ closes nodes.arguments s (endOf t) ∷ []) K)
     (orArgument r s K t (stop 9))
 
 -- a directive's `@`, the directives of which began at s, with the events es before it; else m
 unfoldable pub orDirective : List Item → (depth start : ℕ) → List Sym → Token → Move → Move
 orDirective es r s K t m =
     pick (eqb (t .kind) at)
-    (go (es ++ (opens 21 (t .start) ∷ tokenEvent t ∷ [])) (name ∷ optArguments r ∷ close 21 (t .start) ∷ directives r s ∷ K)) m
+    (go (es ++ (opens nodes.directive (t .start) ∷ tokenEvent t ∷ [])) (name ∷ optArguments r ∷ close nodes.directive (t .start) ∷ directives r s ∷ K)) m
 
 -- the first `@`
 abbrev pub orDirectives : (depth : ℕ) → List Sym → Token → Move → Move
-orDirectives r K t m = orDirective (opens 20 (t .start) ∷ []) r (t .start) K t m
+orDirectives r K t m = orDirective (opens nodes.directives (t .start) ∷ []) r (t .start) K t m
 
 -- after the `...` d: a fragment spread's name, a type condition's `on`, or an inline fragment's `@` or `{`
 unfoldable pub atSpread : (depth : ℕ) → Token → List Sym → Token → Move
 atSpread r d K t =
     pick (isFragmentName (t .kind))
-    (go (opens 22 (d .start) ∷ tokenEvent d ∷ opens 23 (t .start) ∷ (nameEvents t ++ (closes 23 (t .start) (endOf t) ∷ [])))
-    (optDirectives r ∷ close 22 (d .start) ∷ K))
-    (also (opens 24 (d .start) ∷ tokenEvent d ∷ [])
+    (go (opens nodes.fragmentSpread (d .start) ∷ tokenEvent d ∷ opens nodes.fragmentName (t .start) ∷ (nameEvents t ++ (closes nodes.fragmentName (t .start) (endOf t) ∷ [])))
+    (optDirectives r ∷ close nodes.fragmentSpread (d .start) ∷ K))
+    (also (opens nodes.inlineFragment (d .start) ∷ tokenEvent d ∷ [])
     (pick (eqb (t .kind) wordOn)
-    (go (opens 25 (t .start) ∷ tokenEvent t ∷ []) (namedType ∷ close 25 (t .start) ∷ optDirectives r ∷ selectionSet r ∷ close 24 (d .start) ∷ K))
-    (orDirectives r (selectionSet r ∷ close 24 (d .start) ∷ K) t
-    (orSelectionSet r (close 24 (d .start) ∷ K) t (stop 9)))))
+    (go (opens nodes.typeCondition (t .start) ∷ tokenEvent t ∷ []) (namedType ∷ close nodes.typeCondition (t .start) ∷ optDirectives r ∷ selectionSet r ∷ close nodes.inlineFragment (d .start) ∷ K))
+    (orDirectives r (selectionSet r ∷ close nodes.inlineFragment (d .start) ∷ K) t
+    (orSelectionSet r (close nodes.inlineFragment (d .start) ∷ K) t (stop 9)))))
 
 -- one step: c says whether values are constant, l is the end of the token before t. What ends where something else begins hands the
 -- token on to what lies below
@@ -180,18 +181,18 @@ step c l (selections r s ∷ K) t = atSelections r s K t
 -- a `:` makes the name n an alias; else it is the field's own, and t is what follows it
 step c l (named r n ∷ K) t =
     pick (eqb (t .kind) colon)
-    (go (opens 16 (n .start) ∷ opens 17 (n .start) ∷ (nameEvents n ++ (tokenEvent t ∷ closes 17 (n .start) (endOf t) ∷ []))) (name ∷ afterName r (n .start) K))
-    (also (opens 16 (n .start) ∷ nameEvents n)
-    (orArguments r (optDirectives r ∷ optSelectionSet r ∷ close 16 (n .start) ∷ K) t
-    (orDirectives r (optSelectionSet r ∷ close 16 (n .start) ∷ K) t
-    (orSelectionSet r (close 16 (n .start) ∷ K) t
-    (also (closes 16 (n .start) l ∷ []) (step c l K t))))))
+    (go (opens nodes.field (n .start) ∷ opens nodes.alias (n .start) ∷ (nameEvents n ++ (tokenEvent t ∷ closes nodes.alias (n .start) (endOf t) ∷ []))) (name ∷ afterName r (n .start) K))
+    (also (opens nodes.field (n .start) ∷ nameEvents n)
+    (orArguments r (optDirectives r ∷ optSelectionSet r ∷ close nodes.field (n .start) ∷ K) t
+    (orDirectives r (optSelectionSet r ∷ close nodes.field (n .start) ∷ K) t
+    (orSelectionSet r (close nodes.field (n .start) ∷ K) t
+    (also (closes nodes.field (n .start) l ∷ []) (step c l K t))))))
 step c l (spread r d ∷ K) t = atSpread r d K t
 step c l (optArguments r ∷ K) t = orArguments r K t (step c l K t)
 step c l (firstArgument r s ∷ K) t = orArgument r s K t (stop 9)
 step c l (arguments r s ∷ K) t = atArguments r s K t
 step c l (optDirectives r ∷ K) t = orDirectives r K t (step c l K t)
-step c l (directives r s ∷ K) t = orDirective [] r s K t (also (closes 20 s l ∷ []) (step c l K t))
+step c l (directives r s ∷ K) t = orDirective [] r s K t (also (closes nodes.directives s l ∷ []) (step c l K t))
 step c l (namedType ∷ K) t = atNamedType K t
 
 -- ---- the run

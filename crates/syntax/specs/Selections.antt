@@ -4,6 +4,7 @@ use Prim.Native.Nat.{ℕ, suc, max}
 use mathlib.Core.Bool.{false}
 use mathlib.Core.List.{List, [], _∷_, _++_}
 use Rattle.base.specs.Item.{Item}
+use Rattle.codes.specs.EventCodes as nodes
 use Rattle.syntax.specs.Token.{parenL, parenR, dots, colon, at, braceL, braceR, wordOn, Token, tokenEvent, leaf, nameEvents}
 use Rattle.syntax.specs.Grammar.{Span, of, Name, nameToken, FragmentWord, fragmentKind, node, Value, valueTokens, valueEvents, valueDepth}
 
@@ -121,7 +122,7 @@ abbrev mutual
 -- ---- the events
 
 abbrev pub argumentEvents : Argument → List Item
-argumentEvents a = node 19 (argumentTokens a) (nameEvents (nameToken (a .name)) ++ (tokenEvent (of colon (a .colonAt)) ∷ valueEvents (a .value)))
+argumentEvents a = node nodes.argument (argumentTokens a) (nameEvents (nameToken (a .name)) ++ (tokenEvent (of colon (a .colonAt)) ∷ valueEvents (a .value)))
 
 abbrev pub argumentsEvents : Arguments → List Item
 argumentsEvents (oneArgument a) = argumentEvents a
@@ -131,10 +132,10 @@ argumentsEvents (moreArguments a xs) = argumentEvents a ++ argumentsEvents xs
 abbrev pub optArgumentsEvents : OptArguments → List Item
 optArgumentsEvents noArguments = []
 optArgumentsEvents (arguments l xs r) =
-    node 18 (of parenL l ∷ (argumentsTokens xs ++ (of parenR r ∷ []))) (tokenEvent (of parenL l) ∷ (argumentsEvents xs ++ (tokenEvent (of parenR r) ∷ [])))
+    node nodes.arguments (of parenL l ∷ (argumentsTokens xs ++ (of parenR r ∷ []))) (tokenEvent (of parenL l) ∷ (argumentsEvents xs ++ (tokenEvent (of parenR r) ∷ [])))
 
 abbrev pub directiveEvents : Directive → List Item
-directiveEvents d = node 21 (directiveTokens d) (tokenEvent (of at (d .atAt)) ∷ (nameEvents (nameToken (d .name)) ++ optArgumentsEvents (d .args)))
+directiveEvents d = node nodes.directive (directiveTokens d) (tokenEvent (of at (d .atAt)) ∷ (nameEvents (nameToken (d .name)) ++ optArgumentsEvents (d .args)))
 
 abbrev pub directivesEvents : Directives → List Item
 directivesEvents (oneDirective d) = directiveEvents d
@@ -142,23 +143,23 @@ directivesEvents (moreDirectives d ds) = directiveEvents d ++ directivesEvents d
 
 abbrev pub optDirectivesEvents : OptDirectives → List Item
 optDirectivesEvents noDirectives = []
-optDirectivesEvents (directives ds) = node 20 (directivesTokens ds) (directivesEvents ds)
+optDirectivesEvents (directives ds) = node nodes.directives (directivesTokens ds) (directivesEvents ds)
 
 -- "An alias includes its `:`"
 abbrev pub aliasEvents : OptAlias → List Item
 aliasEvents noAlias = []
-aliasEvents (alias n c) = node 17 (nameToken n ∷ of colon c ∷ []) (nameEvents (nameToken n) ++ (tokenEvent (of colon c) ∷ []))
+aliasEvents (alias n c) = node nodes.alias (nameToken n ∷ of colon c ∷ []) (nameEvents (nameToken n) ++ (tokenEvent (of colon c) ∷ []))
 
 -- "a type condition is `on` and a NAMED_TYPE", and its `on` is held by itself
 abbrev pub conditionEvents : OptCondition → List Item
 conditionEvents noCondition = []
 conditionEvents (condition o n) =
-    node 25 (of wordOn o ∷ nameToken n ∷ []) (tokenEvent (of wordOn o) ∷ node 12 (nameToken n ∷ []) (nameEvents (nameToken n)))
+    node nodes.typeCondition (of wordOn o ∷ nameToken n ∷ []) (tokenEvent (of wordOn o) ∷ node nodes.namedType (nameToken n ∷ []) (nameEvents (nameToken n)))
 
 abbrev mutual
   pub setEvents : SelectionSet → List Item
   setEvents (selectionSet l ss r) =
-      node 15 (of braceL l ∷ (selectionsTokens ss ++ (of braceR r ∷ []))) (tokenEvent (of braceL l) ∷ (selectionsEvents ss ++ (tokenEvent (of braceR r) ∷ [])))
+      node nodes.selectionSet (of braceL l ∷ (selectionsTokens ss ++ (of braceR r ∷ []))) (tokenEvent (of braceL l) ∷ (selectionsEvents ss ++ (tokenEvent (of braceR r) ∷ [])))
 
   pub selectionsEvents : Selections → List Item
   selectionsEvents (oneSelection s) = selectionEvents s
@@ -166,13 +167,13 @@ abbrev mutual
 
   pub selectionEvents : Selection → List Item
   selectionEvents (field a n xs ds s) =
-      node 16 (aliasTokens a ++ (nameToken n ∷ (optArgumentsTokens xs ++ (optDirectivesTokens ds ++ optSetTokens s))))
+      node nodes.field (aliasTokens a ++ (nameToken n ∷ (optArgumentsTokens xs ++ (optDirectivesTokens ds ++ optSetTokens s))))
       (aliasEvents a ++ (nameEvents (nameToken n) ++ (optArgumentsEvents xs ++ (optDirectivesEvents ds ++ optSetEvents s))))
   selectionEvents (fragmentSpread d w n ds) =
-      node 22 (of dots d ∷ of (fragmentKind w) n ∷ optDirectivesTokens ds)
-      (tokenEvent (of dots d) ∷ (node 23 (of (fragmentKind w) n ∷ []) (nameEvents (of (fragmentKind w) n)) ++ optDirectivesEvents ds))
+      node nodes.fragmentSpread (of dots d ∷ of (fragmentKind w) n ∷ optDirectivesTokens ds)
+      (tokenEvent (of dots d) ∷ (node nodes.fragmentName (of (fragmentKind w) n ∷ []) (nameEvents (of (fragmentKind w) n)) ++ optDirectivesEvents ds))
   selectionEvents (inlineFragment d c ds s) =
-      node 24 (of dots d ∷ (conditionTokens c ++ (optDirectivesTokens ds ++ setTokens s)))
+      node nodes.inlineFragment (of dots d ∷ (conditionTokens c ++ (optDirectivesTokens ds ++ setTokens s)))
       (tokenEvent (of dots d) ∷ (conditionEvents c ++ (optDirectivesEvents ds ++ setEvents s)))
 
   pub optSetEvents : OptSelectionSet → List Item

@@ -5,55 +5,13 @@ use mathlib.Core.Bool.{Bool, _||_}
 use lib.Dec.{leb, eqb}
 use Rattle.base.specs.Text.{pick, from}
 use Rattle.base.specs.Item.{Item, item}
+pub use Rattle.codes.specs.ItemCodes.{eof, bang, dollar, parenL, parenR, dots, colon, at, bracketL, bracketR, braceL, braceR, string, int, float}
+use Rattle.codes.specs.EventCodes as nodes
+use Rattle.codes.specs.ItemCodes as codes
 
 -- The kind of a token is its item code, but a Name's is 22 if it is `true`, 23 if `false`, 24 if `null` and 25 if `on`.
-abbrev pub eof : ℕ
-eof = 0
-
-abbrev pub bang : ℕ
-bang = 4
-
-abbrev pub dollar : ℕ
-dollar = 5
-
-abbrev pub parenL : ℕ
-parenL = 7
-
-abbrev pub parenR : ℕ
-parenR = 8
-
-abbrev pub dots : ℕ
-dots = 9
-
-abbrev pub colon : ℕ
-colon = 10
-
-abbrev pub at : ℕ
-at = 12
-
-abbrev pub bracketL : ℕ
-bracketL = 13
-
-abbrev pub bracketR : ℕ
-bracketR = 14
-
-abbrev pub braceL : ℕ
-braceL = 15
-
-abbrev pub braceR : ℕ
-braceR = 17
-
 abbrev pub plain : ℕ
-plain = 18
-
-abbrev pub string : ℕ
-string = 19
-
-abbrev pub int : ℕ
-int = 20
-
-abbrev pub float : ℕ
-float = 21
+plain = codes.name
 
 abbrev pub wordTrue : ℕ
 wordTrue = 22
@@ -98,14 +56,14 @@ codeOf t = pick (leb wordTrue (t .kind)) plain (t .kind)
 
 -- "a token is 128 + its item code (its span)"
 abbrev pub tokenEvent : Token → Item
-tokenEvent t = item (128 + codeOf t) (t .start) (t .size)
+tokenEvent t = item (nodes.holding (codeOf t)) (t .start) (t .size)
 
 -- "a node opens with n (start of its first token, length 0), closes with 64 + n (first token's start to last one's end)"
 abbrev pub opens : ℕ → ℕ → Item
 opens n start = item n start 0
 
 abbrev pub closes : ℕ → (start end : ℕ) → Item
-closes n start end = item (64 + n) start (end - start)
+closes n start end = item (nodes.closing n) start (end - start)
 
 -- a node around one token
 abbrev pub leaf : ℕ → Token → List Item
@@ -113,4 +71,4 @@ leaf n t = opens n (t .start) ∷ tokenEvent t ∷ closes n (t .start) (endOf t)
 
 -- "Every Name gives a NAME around its token"
 abbrev pub nameEvents : Token → List Item
-nameEvents t = leaf 1 t
+nameEvents t = leaf nodes.name t

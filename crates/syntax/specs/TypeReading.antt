@@ -5,6 +5,7 @@ use mathlib.Core.List.{List, [], _∷_, _++_}
 use lib.Dec.{eqb}
 use Rattle.base.specs.Text.{pick}
 use Rattle.base.specs.Item.{Item}
+use Rattle.codes.specs.EventCodes as nodes
 use Rattle.syntax.specs.Token.{eof, bang, bracketL, bracketR, isName, Token, endOf, tokenEvent, opens, closes, nameEvents}
 use Rattle.syntax.specs.Machine.{Read, refused, accepted}
 
@@ -17,7 +18,7 @@ pub data TypeRead : Type 0 where
 unfoldable pub withBang : (s : ℕ) → List Item → (end : ℕ) → List Token → TypeRead
 withBang s es e [] = typed es e []
 withBang s es e (t ∷ ts) =
-    pick (eqb (t .kind) bang) (typed (opens 14 s ∷ (es ++ (tokenEvent t ∷ closes 14 s (endOf t) ∷ []))) (endOf t) ts)
+    pick (eqb (t .kind) bang) (typed (opens nodes.nonNullType s ∷ (es ++ (tokenEvent t ∷ closes nodes.nonNullType s (endOf t) ∷ []))) (endOf t) ts)
     (typed es e (t ∷ ts))
 
 -- the `]` of a list type whose `[` is b, after its item type
@@ -26,7 +27,7 @@ withBracket b (untyped n p) = untyped n p
 withBracket b (typed es e []) = untyped 9 e
 withBracket b (typed es e (t ∷ ts)) =
     pick (eqb (t .kind) bracketR)
-    (withBang (b .start) (opens 13 (b .start) ∷ tokenEvent b ∷ (es ++ (tokenEvent t ∷ closes 13 (b .start) (endOf t) ∷ []))) (endOf t) ts)
+    (withBang (b .start) (opens nodes.listType (b .start) ∷ tokenEvent b ∷ (es ++ (tokenEvent t ∷ closes nodes.listType (b .start) (endOf t) ∷ []))) (endOf t) ts)
     (untyped 9 (t .start))
 
 -- 7 at the token after a `[`, "before looking further"
@@ -38,10 +39,10 @@ noDepth (t ∷ ts) e = untyped 7 (t .start)
 unfoldable pub typeAt : (depth : ℕ) → List Token → TypeRead
 typeAt r [] = untyped 9 0
 typeAt zero (t ∷ ts) =
-    pick (isName (t .kind)) (withBang (t .start) (opens 12 (t .start) ∷ (nameEvents t ++ (closes 12 (t .start) (endOf t) ∷ []))) (endOf t) ts)
+    pick (isName (t .kind)) (withBang (t .start) (opens nodes.namedType (t .start) ∷ (nameEvents t ++ (closes nodes.namedType (t .start) (endOf t) ∷ []))) (endOf t) ts)
     (pick (eqb (t .kind) bracketL) (noDepth ts (endOf t)) (untyped 9 (t .start)))
 typeAt (suc r) (t ∷ ts) =
-    pick (isName (t .kind)) (withBang (t .start) (opens 12 (t .start) ∷ (nameEvents t ++ (closes 12 (t .start) (endOf t) ∷ []))) (endOf t) ts)
+    pick (isName (t .kind)) (withBang (t .start) (opens nodes.namedType (t .start) ∷ (nameEvents t ++ (closes nodes.namedType (t .start) (endOf t) ∷ []))) (endOf t) ts)
     (pick (eqb (t .kind) bracketL) (withBracket t (typeAt r ts)) (untyped 9 (t .start)))
 
 -- a type fills the text: Eof follows

@@ -3,6 +3,7 @@
 use Prim.Native.Nat.{ℕ, suc}
 use mathlib.Core.List.{List, [], _∷_, _++_}
 use Rattle.base.specs.Item.{Item}
+use Rattle.codes.specs.EventCodes as nodes
 use Rattle.syntax.specs.Token.{bang, bracketL, bracketR, Token, tokenEvent, nameEvents}
 use Rattle.syntax.specs.Grammar.{Span, of, Name, nameToken, node}
 
@@ -32,12 +33,12 @@ abbrev mutual
 abbrev mutual
   pub tyEvents : Ty → List Item
   tyEvents (nullable b) = baseEvents b
-  tyEvents (nonNull b s) = node 14 (baseTokens b ++ (of bang s ∷ [])) (baseEvents b ++ (tokenEvent (of bang s) ∷ []))
+  tyEvents (nonNull b s) = node nodes.nonNullType (baseTokens b ++ (of bang s ∷ [])) (baseEvents b ++ (tokenEvent (of bang s) ∷ []))
 
   pub baseEvents : Base → List Item
-  baseEvents (namedType n) = node 12 (nameToken n ∷ []) (nameEvents (nameToken n))
+  baseEvents (namedType n) = node nodes.namedType (nameToken n ∷ []) (nameEvents (nameToken n))
   baseEvents (listType l t r) =
-      node 13 (of bracketL l ∷ (tyTokens t ++ (of bracketR r ∷ []))) (tokenEvent (of bracketL l) ∷ (tyEvents t ++ (tokenEvent (of bracketR r) ∷ [])))
+      node nodes.listType (of bracketL l ∷ (tyTokens t ++ (of bracketR r ∷ []))) (tokenEvent (of bracketL l) ∷ (tyEvents t ++ (tokenEvent (of bracketR r) ∷ [])))
 
 abbrev mutual
   pub tyDepth : Ty → ℕ

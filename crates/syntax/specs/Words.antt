@@ -6,6 +6,7 @@ use lib.Dec.{eqb}
 use lib.ListN.{take, drop}
 use Rattle.base.specs.Text.{pick, from}
 use Rattle.base.specs.Item.{Item}
+use Rattle.codes.specs.ItemCodes as codes
 use Rattle.rules.specs.Items.{items}
 use Rattle.syntax.specs.Token.{plain, wordTrue, wordFalse, wordNull, wordOn, Token, token}
 
@@ -30,7 +31,7 @@ tokenOf t x = token (pick (eqb (x .code) plain) (wordOf (take (x .size) (drop (x
 
 -- "Ignored items (codes 1 to 3)"
 unfoldable pub ignored : ℕ → Bool
-ignored k = from 1 3 k
+ignored k = from codes.whitespace codes.comma k
 
 -- the tokens of a list of items of t that are not ignored
 unfoldable pub significant : List ℕ → List Item → List Token

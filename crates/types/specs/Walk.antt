@@ -7,6 +7,7 @@ use lib.Dec.{eqb}
 use lib.ListN.{length, getD}
 use Rattle.base.specs.Text.{pick}
 use Rattle.base.specs.Item.{Item}
+use Rattle.codes.specs.EventCodes as nodes
 use Rattle.rules.specs.Items.{items}
 use Rattle.syntax.specs.Token.{bang, bracketL, bracketR, isName, Token, endOf, tokenEvent, opens, closes, nameEvents}
 use Rattle.syntax.specs.TypeReading.{TypeRead, typed, untyped, noDepth, typeAt}
@@ -21,17 +22,17 @@ listed b (untyped n p) = untyped n p
 listed b (typed es e []) = untyped 9 e
 listed b (typed es e (t ∷ ts)) =
     pick (eqb (t .kind) bracketR)
-    (typed (opens 13 (b .start) ∷ tokenEvent b ∷ (es ++ (tokenEvent t ∷ closes 13 (b .start) (endOf t) ∷ []))) (endOf t) ts)
+    (typed (opens nodes.listType (b .start) ∷ tokenEvent b ∷ (es ++ (tokenEvent t ∷ closes nodes.listType (b .start) (endOf t) ∷ []))) (endOf t) ts)
     (untyped 9 (t .start))
 
 -- a type but for its `!`, with so much depth left
 unfoldable pub baseAt : (depth : ℕ) → List Token → TypeRead
 baseAt r [] = untyped 9 0
 baseAt zero (t ∷ ts) =
-    pick (isName (t .kind)) (typed (opens 12 (t .start) ∷ (nameEvents t ++ (closes 12 (t .start) (endOf t) ∷ []))) (endOf t) ts)
+    pick (isName (t .kind)) (typed (opens nodes.namedType (t .start) ∷ (nameEvents t ++ (closes nodes.namedType (t .start) (endOf t) ∷ []))) (endOf t) ts)
     (pick (eqb (t .kind) bracketL) (noDepth ts (endOf t)) (untyped 9 (t .start)))
 baseAt (suc r) (t ∷ ts) =
-    pick (isName (t .kind)) (typed (opens 12 (t .start) ∷ (nameEvents t ++ (closes 12 (t .start) (endOf t) ∷ []))) (endOf t) ts)
+    pick (isName (t .kind)) (typed (opens nodes.namedType (t .start) ∷ (nameEvents t ++ (closes nodes.namedType (t .start) (endOf t) ∷ []))) (endOf t) ts)
     (pick (eqb (t .kind) bracketL) (listed t (typeAt r ts)) (untyped 9 (t .start)))
 
 -- the kind of the first token
@@ -68,11 +69,11 @@ pub data Walked (t : List ℕ) (x : TypeRead) (before after : Type 0) (tape : Li
 -- a `]` at item number `at` is the last token of a list type that began at `start`; or 9
 pub data Closed (t : List ℕ) (start at : ℕ) (tape : List ℕ) (out : ℕ) (tape′ : List ℕ) : Step → Type 0 where
   closed : {next out′ : ℕ} (u : Token) → rest t at ≡ u ∷ rest t next → eqb (u .kind) bracketR ≡ true → next < length (items t)
-      → Puts tape out tape′ out′ (tokenEvent u ∷ closes 13 start (endOf u) ∷ []) → Closed t start at tape out tape′ (Done next (endOf u) out′)
+      → Puts tape out tape′ out′ (tokenEvent u ∷ closes nodes.listType start (endOf u) ∷ []) → Closed t start at tape out tape′ (Done next (endOf u) out′)
   unclosed : (u : Token) (us : List Token) → rest t at ≡ u ∷ us → eqb (u .kind) bracketR ≡ false → tape′ ≡ tape → Closed t start at tape out tape′ (Stop 9 (u .start))
 
 -- a type that began at `start` ended at `end`, before item number `at`: a `!` there is the last token of a non-null type; else it is done
 pub data Ended (t : List ℕ) (start at end : ℕ) (tape : List ℕ) (out : ℕ) (tape′ : List ℕ) : Step → Type 0 where
   banged : {next out′ : ℕ} (u : Token) → rest t at ≡ u ∷ rest t next → eqb (u .kind) bang ≡ true → next < length (items t)
-      → Puts tape out tape′ out′ (tokenEvent u ∷ closes 14 start (endOf u) ∷ []) → Ended t start at end tape out tape′ (Done next (endOf u) out′)
+      → Puts tape out tape′ out′ (tokenEvent u ∷ closes nodes.nonNullType start (endOf u) ∷ []) → Ended t start at end tape out tape′ (Done next (endOf u) out′)
   bare : (u : Token) (us : List Token) → rest t at ≡ u ∷ us → eqb (u .kind) bang ≡ false → tape′ ≡ tape → Ended t start at end tape out tape′ (Done at end out)

@@ -11,6 +11,8 @@ ghost use Prim.Native.Nat.{ℕ, _^_, _≤_, _<_};
 ghost use lib.Dec.{eqb};
 ghost use lib.ListN.{length, getD};
 ghost use Rattle.base.specs.Text.{pick};
+ghost use Rattle.codes.specs.Bounds.{deepest};
+ghost use Rattle.codes.specs.EventCodes as nodes;
 ghost use Rattle.rules.specs.Items.{items as itemsOf};
 ghost use Rattle.syntax.specs.Token.{bang, opens};
 ghost use Rattle.syntax.specs.Machine.{namedType};
@@ -60,7 +62,7 @@ fn noted(follows: &[u8], depth: usize) -> u8
 // A NON_NULL_TYPE opens if a `!` is to follow.
 fn open_noted(kind: u8, start: usize, events: &mut [u8], out: usize) -> usize
     requires { ⌜ start < 2 ^ 28 ⌝ }
-    ensures { λ r. ⌜ Puts (now (events .entry)) out (now (events .exit)) r (pick (eqb kind bang) (opens 14 start ∷ []) []) ⌝ }
+    ensures { λ r. ⌜ Puts (now (events .entry)) out (now (events .exit)) r (pick (eqb kind bang) (opens nodes.nonNullType start ∷ []) []) ⌝ }
 {
     if kind != item::BANG {
         return out;
@@ -206,7 +208,7 @@ fn walk(
 pub fn ty(text: &[u8], items: &[u8], at: usize, depth: usize, events: &mut [u8], out: usize) -> Step
     requires { ⌜ Holds (now text) (now items) ⌝ }
     requires { ⌜ at < length (itemsOf (now text)) ⌝ }
-    requires { ⌜ depth ≤ 500 ⌝ }
+    requires { ⌜ depth ≤ deepest ⌝ }
     ensures { λ r. ⌜ TypeOutcome (now (text .entry)) depth at (now (events .entry)) out (now (events .exit)) r ⌝ }
 {
     let mut follows = [0u8; 501];

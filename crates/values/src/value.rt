@@ -14,6 +14,8 @@ ghost use mathlib.Core.Bool.{Bool, true};
 ghost use mathlib.Core.List.{[], _∷_, _++_};
 ghost use Prim.Native.Nat.{ℕ, _+_, _^_, _<_};
 ghost use lib.ListN.{length};
+ghost use Rattle.codes.specs.EventCodes as nodes;
+ghost use Rattle.codes.specs.ItemCodes as codes;
 ghost use Rattle.rules.specs.Items.{items as itemsOf};
 ghost use Rattle.syntax.specs.Token.{isName, isEnum, endOf, opens, closes, nameEvents};
 ghost use Rattle.syntax.specs.Machine.{value as valueDue, deeper, fields, close};
@@ -51,7 +53,7 @@ fn is_enum(kind: u8) -> bool
 fn enum_value(token: Peeked, events: &mut [u8], out: usize) -> usize
     requires { ⌜ token .kind < 26 ⌝ }
     requires { ⌜ token .start + token .size < 2 ^ 28 ⌝ }
-    ensures { λ r. ⌜ Puts (now (events .entry)) out (now (events .exit)) r (opens 7 (token .start) ∷ (nameEvents (tokenOf token) ++ (closes 7 (token .start) (endOf (tokenOf token)) ∷ []))) ⌝ }
+    ensures { λ r. ⌜ Puts (now (events .entry)) out (now (events .exit)) r (opens nodes.enumValue (token .start) ∷ (nameEvents (tokenOf token) ++ (closes nodes.enumValue (token .start) (endOf (tokenOf token)) ∷ []))) ⌝ }
 {
     parser::put_named(events, out, node::ENUM_VALUE, token)
 }
@@ -119,7 +121,7 @@ fn list_value(
     out: usize,
 ) -> Step
     requires { ⌜ Holds (now text) (now items) ⌝ }
-    requires { ⌜ token .kind ≡ 13 ⌝ }
+    requires { ⌜ token .kind ≡ codes.bracketL ⌝ }
     requires { ⌜ Seen (now text) token ⌝ }
     ensures { λ r. ⌜ ((at l : ℕ) → Front (now (text .entry)) at token → Outcome constant (now (text .entry)) (valueDue depth ∷ []) [] l at (now (events .entry)) out (now (events .exit)) r) ⌝ }
 {
@@ -169,7 +171,7 @@ fn field_name(text: &[u8], items: &[u8], token: Peeked, events: &mut [u8], out: 
     requires { ⌜ Holds (now text) (now items) ⌝ }
     requires { ⌜ isName (token .kind) ≡ true ⌝ }
     requires { ⌜ Seen (now text) token ⌝ }
-    ensures { λ r. ⌜ ((c : Bool) (at l depth start : ℕ) → Front (now (text .entry)) at token → Outcome c (now (text .entry)) (fields depth start ∷ []) (deeper depth ∷ close 10 (token .start) ∷ fields depth start ∷ []) l at (now (events .entry)) out (now (events .exit)) r) ⌝ }
+    ensures { λ r. ⌜ ((c : Bool) (at l depth start : ℕ) → Front (now (text .entry)) at token → Outcome c (now (text .entry)) (fields depth start ∷ []) (deeper depth ∷ close nodes.objectField (token .start) ∷ fields depth start ∷ []) l at (now (events .entry)) out (now (events .exit)) r) ⌝ }
 {
     let opened = parser::put_open(events, out, node::OBJECT_FIELD, token.start);
     let named = parser::put_leaf(events, opened, node::NAME, token);
@@ -232,7 +234,7 @@ fn object_value(
     out: usize,
 ) -> Step
     requires { ⌜ Holds (now text) (now items) ⌝ }
-    requires { ⌜ token .kind ≡ 15 ⌝ }
+    requires { ⌜ token .kind ≡ codes.braceL ⌝ }
     requires { ⌜ Seen (now text) token ⌝ }
     ensures { λ r. ⌜ ((at l : ℕ) → Front (now (text .entry)) at token → Outcome constant (now (text .entry)) (valueDue depth ∷ []) [] l at (now (events .entry)) out (now (events .exit)) r) ⌝ }
 {

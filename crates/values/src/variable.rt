@@ -7,6 +7,7 @@ ghost use mathlib.Core.Path.{_≡_};
 ghost use mathlib.Core.Bool.{false};
 ghost use mathlib.Core.List.{[], _∷_};
 ghost use Prim.Native.Nat.{ℕ};
+ghost use Rattle.codes.specs.ItemCodes as codes;
 ghost use Rattle.syntax.specs.Machine.{value as valueDue};
 ghost use Rattle.parser.specs.View.{Holds, Front, Seen};
 ghost use Rattle.parser.specs.Promise.{Outcome};
@@ -14,7 +15,7 @@ ghost use Rattle.parser.specs.Promise.{Outcome};
 // A variable, whose `$` is the token.
 pub fn variable(text: &[u8], items: &[u8], token: Peeked, events: &mut [u8], out: usize) -> Step
     requires { ⌜ Holds (now text) (now items) ⌝ }
-    requires { ⌜ token .kind ≡ 5 ⌝ }
+    requires { ⌜ token .kind ≡ codes.dollar ⌝ }
     requires { ⌜ Seen (now text) token ⌝ }
     ensures { λ r. ⌜ ((at l depth : ℕ) → Front (now (text .entry)) at token → Outcome false (now (text .entry)) (valueDue depth ∷ []) [] l at (now (events .entry)) out (now (events .exit)) r) ⌝ }
 {
