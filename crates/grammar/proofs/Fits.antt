@@ -1,18 +1,18 @@
 -- A text has at most one token for each byte, and Eof, so that the events of an accepted reading can be counted. Assumes nothing.
-use Prim.Native.Nat.{ℕ, zero, suc, pred, _+_, _*_, _^_, _≤_, _<_}
-use mathlib.Core.Path.{_≡_, refl, sym, _∙_}
+use Prim.Native.Nat.{ℕ, zero, suc, pred, _+_, _^_, _≤_, _<_}
+use mathlib.Core.Path.{_≡_}
 use mathlib.Core.Bool.{Bool, true, false}
 use mathlib.Core.List.{List, [], _∷_, _++_}
 use native.Mathlib.Omega.{arith}
 use lib.ListN.{length, length-append}
 use Rattle.base.specs.Text.{pick}
 use Rattle.base.specs.Item.{Item}
-use Rattle.tiles.specs.Tiles.{tiles, eof}
+use Rattle.tiles.specs.Tiles.{tiles}
 use Rattle.rules.specs.Items.{itemAt, items}
 use Rattle.rules.proofs.Tiling.{eof-position}
 use Rattle.syntax.specs.Token.{Token}
 use Rattle.syntax.specs.Words.{tokenOf, ignored, significant, tokens}
-use Rattle.syntax.specs.Machine.{Read, accepted}
+use Rattle.syntax.specs.Machine.{accepted}
 use Rattle.syntax.specs.Grammar.{valueTokens, valueEvents}
 use Rattle.syntax.specs.Types.{tyTokens, tyEvents}
 use Rattle.syntax.specs.Selections.{setTokens, setEvents}

@@ -1,12 +1,11 @@
 -- The entries accept just the sentences, and the event tape holds the one tree's events. Assumes nothing.
 use Prim.Native.Nat.{ℕ, suc, _≤_, _<_, min}
 use mathlib.Core.Path.{_≡_, refl, sym, ap, _∙_}
-use mathlib.Core.Bool.{Bool, true, false}
+use mathlib.Core.Bool.{true, false}
 use mathlib.Core.List.{List, [], _∷_, _++_}
 use mathlib.Core.Logic.{_⊎_, inl, inr}
 use native.Mathlib.Omega.{arith}
-use borrow.Author.Tests.{le-leb, lt-leb, le-ltb, eq-eqb}
-use lib.Dec.{leb}
+use borrow.Author.Tests.{le-leb, lt-leb}
 use lib.ListN.{length}
 use Rattle.base.specs.Item.{Item}
 use Rattle.tape.specs.Entry.{room, entries, over}
@@ -16,7 +15,7 @@ use Rattle.reader.specs.Answers.{answer, longest, answerOf, tapeOf}
 use Rattle.reader.proofs.Laws.{done-when, row-0}
 use Rattle.syntax.specs.Token.{eof, Token, token}
 use Rattle.syntax.specs.Words.{tokens}
-use Rattle.syntax.specs.Machine.{Read, refused, accepted}
+use Rattle.syntax.specs.Machine.{refused, accepted}
 use Rattle.syntax.proofs.TextTokens.{text-tokens, text-ends}
 use Rattle.syntax.proofs.ValueComplete.{value-complete, constant-complete}
 use Rattle.syntax.proofs.TypeComplete.{type-complete}
@@ -32,7 +31,7 @@ use Rattle.syntax.proofs.Written.{written-tokens, written-clean, written-utf8}
 use Rattle.syntax.proofs.OneReading.{NoError, value-one, ty-one, set-one}
 use Rattle.grammar.specs.declared.Entry.{Entry}
 use Rattle.grammar.specs.declared.Entry.the-variants.{Value, Constant, Ty, SelectionSet}
-use Rattle.grammar.specs.Answers.{readOf, deepest, isError, firstError, readAnswer, itemsAnswer, countedEvents, grammarAnswer, grammarItems, grammarEvents}
+use Rattle.grammar.specs.Answers.{readOf, deepest, isError, firstError, readAnswer, countedEvents, grammarAnswer, grammarItems, grammarEvents}
 use Rattle.grammar.specs.Trees.{Tree, treeTokens, treeEvents, treeDepth, Clear, Sentence}
 use Rattle.grammar.proofs.Rows.{parsed}
 

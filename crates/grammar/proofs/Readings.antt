@@ -1,25 +1,24 @@
 -- Reading what an entry names, then Eof; first to count, then to write. Assumes nothing.
-use Prim.Native.Nat.{ℕ, zero, suc, _+_, _*_, _/_, _^_, _≤_, _<_}
-use mathlib.Core.Path.{_≡_, refl, sym, ap, _∙_}
-use mathlib.Core.Bool.{Bool, true, false}
+use Prim.Native.Nat.{ℕ, suc, _+_, _*_, _^_, _≤_, _<_}
+use mathlib.Core.Path.{_≡_, refl, sym, _∙_}
+use mathlib.Core.Bool.{true, false}
 use mathlib.Core.List.{List, [], _∷_, _++_, append-nil}
 use native.Mathlib.Omega.{arith}
 use borrow.Author.Tests.{ne-eqb, eq-eqb, le-leb, lt-leb, lt-ltb}
 use lib.Dec.{leb}
 use lib.ListN.{length, length-append}
 use Rattle.base.specs.Item.{Item}
-use Rattle.tape.specs.Entry.{entrySize, room, entry, entries, over, overAt}
+use Rattle.tape.specs.Entry.{room, entries, over}
 use Rattle.tape.proofs.Over.{length-entries, length-over, put-next}
 use Rattle.rules.specs.Items.{items}
-use Rattle.syntax.specs.Token.{eof, Token, endOf}
-use Rattle.syntax.specs.Machine.{Sym, stop, halt, step, Read, refused, accepted, emits, moved, run}
-use Rattle.reader.specs.declared.Answer.{Answer}
+use Rattle.syntax.specs.Token.{Token}
+use Rattle.syntax.specs.Machine.{stop, halt, step, Read, accepted, emits, run}
 use Rattle.reader.specs.Answers.{answer}
 use Rattle.parser.specs.declared.Peeked.{Peeked}
 use Rattle.parser.specs.declared.Step.{Step}
 use Rattle.parser.specs.declared.Step.the-variants.{Done, Stop}
 use Rattle.parser.specs.View.{rest, tokenOf, Front}
-use Rattle.parser.specs.Events.{store, stores, most, Puts}
+use Rattle.parser.specs.Events.{store, stores, Puts}
 use Rattle.parser.proofs.Moves.{run-at}
 use Rattle.grammar.specs.Answers.{readAnswer, countedEvents}
 use Rattle.grammar.specs.Promise.{Begins, Parses, reads, accepts}

@@ -1,22 +1,21 @@
 -- What the entries' functions promise, as readings from the first token on. Assumes nothing.
 use Prim.Native.Nat.{ℕ, _<_}
-use mathlib.Core.Path.{_≡_, refl, sym, ap, _∙_}
+use mathlib.Core.Path.{_≡_, refl, ap, _∙_}
 use mathlib.Core.Bool.{Bool, true, false}
-use mathlib.Core.List.{List, [], _∷_, _++_, append-nil}
+use mathlib.Core.List.{List, [], _∷_, append-nil}
 use native.Mathlib.Omega.{arith}
 use lib.Dec.{eqb}
 use lib.ListN.{length}
-use Rattle.base.specs.Text.{pick}
 use Rattle.base.specs.Item.{Item}
 use Rattle.base.proofs.Tests.{by}
 use Rattle.rules.specs.Items.{items}
 use Rattle.rules.proofs.Tiling.{eof-position}
 use Rattle.syntax.specs.Token.{eof, Token}
 use Rattle.syntax.specs.Words.{tokens}
-use Rattle.syntax.specs.Machine.{Sym, value, selectionSet, step, Read, refused, accepted, emits, run, readSelectionSet}
-use Rattle.syntax.specs.TypeReading.{TypeRead, typed, untyped, typeAt, wholeType, readType}
+use Rattle.syntax.specs.Machine.{value, selectionSet, step, refused, emits, run, readSelectionSet}
+use Rattle.syntax.specs.TypeReading.{TypeRead, typed, untyped, wholeType, readType}
 use Rattle.parser.specs.declared.Step.{Step}
-use Rattle.parser.specs.declared.Step.the-variants.{Done, Stop}
+use Rattle.parser.specs.declared.Step.the-variants.{Done}
 use Rattle.parser.specs.View.{rest}
 use Rattle.parser.specs.Promise.{Outcome, took, stopped, Goes, goes, stops}
 use Rattle.types.specs.Promise.{TypeOutcome, given, withheld}

@@ -1,29 +1,28 @@
 -- The cursor's step on plain values: what each way through it answers. Assumes nothing.
-use Prim.Native.Nat.{ℕ, zero, suc, _+_, _-_, _≤_, _<_}
+use Prim.Native.Nat.{ℕ, _+_, _-_, _≤_, _<_}
 use mathlib.Core.Path.{_≡_, refl, sym, ap, _∙_}
 use mathlib.Core.Bool.{Bool, true, false}
 use mathlib.Core.List.{List, [], _∷_}
 use native.Mathlib.Nat.{not-suc-le-zero}
 use native.Mathlib.Omega.{arith}
-use borrow.Author.Tests.{eq-eqb, ne-eqb, eqb-true, eqb-false, lt-ltb, le-ltb, ltb-true, ltb-false}
+use borrow.Author.Tests.{eq-eqb, ne-eqb, eqb-true, le-ltb, ltb-true, ltb-false}
 use lib.Dec.{eqb, ltb}
 use lib.ListN.{length, take, drop, getD, length-drop}
 use Rattle.base.specs.Text.{pick}
-use Rattle.base.specs.Item.{Lexeme, lexeme}
+use Rattle.base.specs.Item.{lexeme}
 use Rattle.base.proofs.Lists.{part-rest}
-use Rattle.base.proofs.Tests.{by, apart}
+use Rattle.base.proofs.Tests.{by}
 use Rattle.rules.specs.Classes.{digit}
 use Rattle.rules.specs.Faults.{stringScan}
 use Rattle.rules.specs.StringAt.{last, closedCode, codeOf, stringAt}
 use Rattle.rules.specs.Tokens.{stringToken, tokenAt}
 use Rattle.rules.specs.Items.{errorAt, itemAt}
 use Rattle.rules.proofs.Tokens.{quote-first}
-use Rattle.rules.proofs.StringSizes.{string-fits, Known, last-known}
+use Rattle.rules.proofs.StringSizes.{string-fits}
 use Rattle.rules.proofs.Register.{register-code}
 use Rattle.rules.proofs.Bounds.{item-le}
 use Rattle.strings.specs.declared.StringScan.{StringScan}
 use Rattle.strings.specs.String.{StringScans}
-use Rattle.strings.specs.String as strings
 use Rattle.lexer.specs.declared.state.State.{State}
 use Rattle.lexer.specs.declared.state.State.the-variants as state
 use Rattle.lexer.specs.declared.state.Lexed.{Lexed}

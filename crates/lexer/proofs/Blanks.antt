@@ -1,17 +1,17 @@
 -- Blanks as the code finds them: by the class of a byte or as U+FEFF, and one after the other. Assumes nothing.
 use Prim.Native.Nat.{ℕ, _+_, _-_, _≤_}
 use mathlib.Core.Path.{_≡_, refl, sym, ap, _∙_}
-use mathlib.Core.Bool.{Bool, true, false, _||_}
-use mathlib.Core.List.{List, [], _∷_}
+use mathlib.Core.Bool.{Bool, true, false}
+use mathlib.Core.List.{List}
 use native.Mathlib.Omega.{arith}
-use borrow.Author.Tests.{eq-eqb, ne-eqb, eqb-true}
+use borrow.Author.Tests.{ne-eqb, eqb-true}
 use lib.Dec.{eqb}
 use lib.ListN.{length, take, drop, getD, length-drop}
 use Rattle.base.specs.Text.{pick}
 use Rattle.base.specs.Span.{span}
 use Rattle.base.proofs.Lists.{part-rest}
 use Rattle.base.proofs.Span.{span-stop, span-turn}
-use Rattle.base.proofs.Tests.{by, refuted, or-true}
+use Rattle.base.proofs.Tests.{or-true}
 use Rattle.rules.specs.Classes.{digit, letter, nameStart}
 use Rattle.rules.specs.Tokens.{blankBy, blank, blanks}
 use Rattle.rules.proofs.Blanks.{blank-le}

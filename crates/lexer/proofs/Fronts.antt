@@ -7,7 +7,7 @@ use mathlib.Core.Option.{Option, some, none}
 use native.Mathlib.Nat.{not-suc-le-zero}
 use native.Mathlib.Numerals.{one-add}
 use native.Mathlib.Omega.{arith}
-use borrow.Author.Tests.{eq-eqb, ne-eqb, eqb-true}
+use borrow.Author.Tests.{ne-eqb}
 use lib.Dec.{eqb}
 use lib.ListN.{length, take, drop, getD, length-drop}
 use Rattle.base.specs.Text.{pick, Class}
@@ -17,8 +17,8 @@ use Rattle.base.proofs.Lists.{part-rest}
 use Rattle.base.proofs.Runs.{run-fits}
 use Rattle.base.proofs.Span.{span-stop, span-step}
 use Rattle.utf8.specs.Sequence.{size}
-use Rattle.rules.specs.Classes.{digit, nameStart, nameContinue, notLineEnd}
-use Rattle.rules.specs.Rules.{Punctuator, comma, spread, punctuator}
+use Rattle.rules.specs.Classes.{nameStart, nameContinue, notLineEnd}
+use Rattle.rules.specs.Rules.{spread, punctuator}
 use Rattle.rules.specs.Tokens.{blank, blanks, punctuatorAt, tokenAt}
 use Rattle.rules.specs.Errors.{starter, unexpected, twoDots, oneDot, error}
 use Rattle.rules.specs.Items.{itemAt}
@@ -26,7 +26,7 @@ use Rattle.rules.proofs.Blanks.{blank-le}
 use Rattle.rules.proofs.Tokens.{name-sound, comment-sound, blanks-token}
 use Rattle.rules.proofs.Items.{no-rule, item-complete, token-item}
 use Rattle.lookup.specs.Class.{punctuationOf, classOf}
-use Rattle.lookup.proofs.Classes.{Is, blankByte, view, punctuator-code}
+use Rattle.lookup.proofs.Classes.{Is, view, punctuator-code}
 use Rattle.lookup.proofs.Classes as classes
 
 -- a name

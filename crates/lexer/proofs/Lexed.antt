@@ -1,14 +1,11 @@
 -- An item as what is found: a token or an error, with its code and its size. Assumes nothing.
 use Prim.Native.Nat.{ℕ, _+_, _-_, _<_}
-use mathlib.Core.Path.{_≡_, refl}
-use mathlib.Core.Bool.{Bool, true, false}
+use mathlib.Core.Path.{_≡_}
 use native.Mathlib.Omega.{arith}
 use borrow.Author.Tests.{lt-ltb, le-ltb, ltb-false}
 use lib.Dec.{ltb}
-use Rattle.base.specs.Text.{pick}
 use Rattle.base.specs.Item.{Lexeme, lexeme}
 use Rattle.base.proofs.Tests.{by}
-use Rattle.lexer.specs.declared.state.Lexed.{Lexed}
 use Rattle.lexer.specs.declared.state.Lexed.the-variants.{Token, Error}
 use Rattle.lexer.specs.Scan.{lexedOf, codeOf, sizeOf}
 

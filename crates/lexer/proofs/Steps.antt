@@ -1,14 +1,11 @@
 -- How an item ends, on plain values: with a kept fault or without one, and at the text's end. Assumes nothing.
 use Prim.Native.Nat.{ℕ, _+_, _-_, _<_}
-use mathlib.Core.Path.{_≡_, refl, sym, ap, _∙_}
+use mathlib.Core.Path.{_≡_, refl}
 use mathlib.Core.List.{List, [], _∷_}
 use denote.Enum.Declared.{tagOf}
 use types.Run.{OneOf, miss}
 use native.Mathlib.Omega.{arith}
 use borrow.Author.Tests.{eq-eqb, ne-eqb, le-ltb}
-use lib.Dec.{eqb}
-use Rattle.numbers.specs.declared.NumberState.{NumberState}
-use Rattle.numbers.specs.Number as numbers
 use Rattle.strings.specs.declared.StringState.{StringState}
 use Rattle.strings.specs.declared.StringState.the-variants as string
 use Rattle.strings.proofs.StringState.{the-type}
@@ -16,7 +13,6 @@ use Rattle.strings.specs.String as strings
 use Rattle.lexer.specs.declared.state.State.{State}
 use Rattle.lexer.specs.declared.state.State.the-variants as state
 use Rattle.lexer.specs.declared.cursor.Cursor.{Cursor}
-use Rattle.lexer.specs.declared.cursor.Advanced.{Advanced}
 use Rattle.lexer.specs.Scan.{endOf}
 use Rattle.lexer.specs.Cursor.{tokenOf, errorOf, doneOf, eofTokenOf, eofOf}
 

@@ -10,7 +10,6 @@ use Rattle.rules.specs.Faults.{stringScan}
 use Rattle.rules.specs.StringAt.{last}
 use Rattle.rules.specs.Items.{itemAt}
 use Rattle.lexer.specs.declared.state.State.{State}
-use Rattle.lexer.specs.declared.state.State.the-variants as state
 use Rattle.lexer.specs.declared.cursor.Cursor.{Cursor}
 use Rattle.lexer.specs.declared.state.Lexed.the-variants.{Token, Error}
 use Rattle.lexer.specs.declared.cursor.Advanced.{Advanced}

@@ -1,7 +1,6 @@
 -- What the answers mean, and the machine of numbers that the code runs: proved to give the items of document 01, the machine need not be
 -- believed. Assumes nothing: these are definitions.
 use Prim.Native.Nat.{ℕ, suc, _+_, _<_}
-use mathlib.Core.Bool.{Bool, true, false}
 use mathlib.Core.List.{List, [], _∷_}
 use lib.Dec.{eqb}
 use Rattle.base.specs.Text.{pick}

@@ -1,27 +1,23 @@
 -- Items by their numbers: each lies in the text, only the last is Eof, and the first token from an item on. Assumes nothing.
 use Prim.Native.Nat.{ℕ, zero, suc, _+_, _≤_, _<_}
 use mathlib.Core.Path.{_≡_, refl, sym, ap, _∙_}
-use mathlib.Core.Bool.{Bool, true, false}
-use mathlib.Core.List.{List, [], _∷_, _++_}
+use mathlib.Core.Bool.{true, false}
+use mathlib.Core.List.{List, [], _∷_}
 use native.Mathlib.Nat.{not-suc-le-zero, le-of-suc-le-suc}
 use native.Mathlib.Numerals.{add-one}
 use native.Mathlib.Omega.{arith}
-use borrow.Author.Tests.{eqb-true, ne-eqb}
-use lib.Dec.{eqb}
-use lib.ListN.{length, drop, getD, List·getD-append}
+use lib.ListN.{length, getD, List·getD-append}
 use lib.Seq.{drop-cons, getD-at}
 use Rattle.base.specs.Text.{pick}
-use Rattle.base.specs.Item.{Item, item}
+use Rattle.base.specs.Item.{Item}
 use Rattle.base.proofs.Tests.{by, apart}
-use Rattle.tape.specs.Entry.{room, entryOf}
+use Rattle.tape.specs.Entry.{entryOf}
 use Rattle.tiles.specs.Tiles.{tiles, eof}
 use Rattle.tiles.specs.Cover.{Covers}
 use Rattle.rules.specs.Items.{itemAt, items}
 use Rattle.rules.proofs.Tiling.{tiling, eof-last, eof-position}
-use Rattle.syntax.specs.Token.{token}
 use Rattle.syntax.specs.Words.{ignored, significant}
 use Rattle.syntax.specs.Words as words
-use Rattle.parser.specs.declared.Peeked.{Peeked}
 use Rattle.parser.specs.View.{Holds, rest, kindOf, Front}
 
 -- items that cover the bytes up to e end by e

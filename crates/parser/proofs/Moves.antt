@@ -1,41 +1,21 @@
 -- Readings put together: one token, one reading after another, a reading with more due below it, and a node that closes. Assumes nothing.
-use Prim.Native.Nat.{ℕ, zero, suc, _+_, _^_, _≤_, _<_}
-use mathlib.Core.Path.{_≡_, refl, sym, ap, _∙_}
+use Prim.Native.Nat.{ℕ, _+_, _^_, _<_}
+use mathlib.Core.Path.{_≡_, _∙_}
 use mathlib.Core.Bool.{Bool}
 use mathlib.Core.List.{List, [], _∷_, _++_, append-assoc}
 use native.Mathlib.Omega.{arith}
 use lib.ListN.{length}
 use Rattle.base.specs.Item.{Item}
-use Rattle.rules.specs.Items.{items}
-use Rattle.syntax.specs.Token.{Token, endOf, closes}
-use Rattle.syntax.specs.Machine.{Sym, close, Move, go, stop, halt, also, step, Read, refused, accepted, emits, moved, run}
+use Rattle.syntax.specs.Token.{endOf, closes}
+use Rattle.syntax.specs.Machine.{Sym, close, go, stop, step, refused, moved, run}
+use Rattle.syntax.proofs.Steps.{emits-emits, run-close}
 use Rattle.parser.specs.declared.Peeked.{Peeked}
 use Rattle.parser.specs.View.{Holds, rest, tokenOf, Front}
 use Rattle.parser.specs.Events.{Puts}
 use Rattle.parser.specs.declared.Step.{Step}
 use Rattle.parser.specs.declared.Step.the-variants.{Done, Stop}
 use Rattle.parser.specs.Promise.{Went, Took, Outcome, took, stopped}
-use Rattle.parser.proofs.Events.{puts-none, puts-then}
-
-pub emits-append : (es fs : List Item) (x : Read) → emits es (emits fs x) ≡ emits (es ++ fs) x
-emits-append es fs (refused n p) = refl
-emits-append es fs (accepted gs) = ap accepted (sym (append-assoc es fs gs))
-
-pub emits-none : (x : Read) → emits [] x ≡ x
-emits-none (refused n p) = refl
-emits-none (accepted gs) = refl
-
--- events before a move are events before what it makes of the reading
-pub moved-also : (es : List Item) (m : Move) (p : ℕ) (k : List Sym → Read) → moved (also es m) p k ≡ emits es (moved m p k)
-moved-also es (go fs K) p k = sym (emits-append es fs (k K))
-moved-also es (stop n) p k = refl
-moved-also es (halt fs) p k = refl
-
--- a node closes where the token before ended
-pub close-now : (c : Bool) (n s l : ℕ) (K : List Sym) (ts : List Token) → run c (close n s ∷ K) l ts ≡ emits (closes n s l ∷ []) (run c K l ts)
-unfolding run step
-close-now c n s l K [] = refl
-close-now c n s l K (t ∷ ts) = moved-also (closes n s l ∷ []) (step c l K t) (t .start) (λ K′. run c K′ (endOf t) ts)
+use Rattle.parser.proofs.Events.{puts-then}
 
 -- the token's span is narrow
 pub narrow : (t tape : List ℕ) (at : ℕ) (p : Peeked) → Holds t tape → Front t at p → p .start + p .size < 2 ^ 28
@@ -74,7 +54,7 @@ went-then {c} {t} {due} {mid} {left} {n′ = n′} {e′ = e′} a b = record {
   onward = let x = a .onward in let y = b .onward in omega arith;
   inside = b .inside;
   fits = b .fits;
-  reads = λ K. a .reads K ∙ rw (b .reads K) (emits-append (a .events) (b .events) (run c (left ++ K) e′ (rest t n′)));
+  reads = λ K. a .reads K ∙ rw (b .reads K) (emits-emits (a .events) (b .events) (run c (left ++ K) e′ (rest t n′)));
 }
 
 pub took-went : {c : Bool} {t : List ℕ} {due mid left : List Sym} {l at : ℕ} {tape : List ℕ} {out : ℕ} {tape′ : List ℕ} {n e o : ℕ} {tape″ : List ℕ} {n′ e′ o′ : ℕ}
@@ -116,7 +96,7 @@ went-closed {c} {t} {due} {left} {n = n} {e = e} {code = code} {start = start} a
   onward = a .onward;
   inside = a .inside;
   fits = a .fits;
-  reads = λ K. a .reads K ∙ rw (close-now c code start e (left ++ K) (rest t n)) (emits-append (a .events) (closes code start e ∷ []) (run c (left ++ K) e (rest t n)));
+  reads = λ K. a .reads K ∙ rw (run-close c code start e (left ++ K) (rest t n)) (emits-emits (a .events) (closes code start e ∷ []) (run c (left ++ K) e (rest t n)));
 }
 
 pub took-closed : {c : Bool} {t : List ℕ} {due left : List Sym} {l at : ℕ} {tape : List ℕ} {out : ℕ} {tape′ : List ℕ} {n e o code start : ℕ} {tape″ : List ℕ} {o′ : ℕ}

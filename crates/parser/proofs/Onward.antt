@@ -1,22 +1,22 @@
 -- From step to step: readings put one after the other, a reading with more due below it, one that needs no token, and a node that closes.
 -- Assumes nothing.
-use Prim.Native.Nat.{ℕ, _+_, _^_, _≤_, _<_}
-use mathlib.Core.Path.{_≡_, refl, sym, ap, _∙_}
+use Prim.Native.Nat.{ℕ, _+_}
+use mathlib.Core.Path.{_≡_, sym, ap, _∙_}
 use mathlib.Core.Bool.{Bool}
 use mathlib.Core.List.{List, [], _∷_, _++_}
 use native.Mathlib.Omega.{arith}
 use lib.ListN.{length}
 use Rattle.base.specs.Item.{Item}
-use Rattle.rules.specs.Items.{items}
 use Rattle.syntax.specs.Token.{closes}
-use Rattle.syntax.specs.Machine.{Sym, close, refused, emits, run}
+use Rattle.syntax.specs.Machine.{Sym, close, emits, run}
 use Rattle.parser.specs.View.{rest}
 use Rattle.parser.specs.Events.{Puts}
 use Rattle.parser.specs.declared.Step.{Step}
-use Rattle.parser.specs.declared.Step.the-variants.{Done, Stop}
-use Rattle.parser.specs.Promise.{Went, Took, Outcome, took, stopped, Ready, Goes, goes, stops, halted, Begun}
+use Rattle.parser.specs.declared.Step.the-variants.{Done}
+use Rattle.parser.specs.Promise.{Took, Outcome, took, stopped, Ready, Goes, goes, stops, halted, Begun}
 use Rattle.parser.proofs.Events.{puts-none, puts-then}
-use Rattle.parser.proofs.Moves.{emits-append, emits-none, close-now, went-then, took-went, stop-then, went-above, stop-above, went-same}
+use Rattle.syntax.proofs.Steps.{emits-emits, emits-none, run-close}
+use Rattle.parser.proofs.Moves.{went-then, took-went, stop-then, went-above, stop-above, went-same}
 
 module _ {c : Bool} {t : List ℕ} where
   -- where it goes is inside again
@@ -74,7 +74,7 @@ module _ {c : Bool} {t : List ℕ} where
     onward = h .onward;
     inside = h .inside;
     fits = h .fits;
-    reads = λ K. f K ∙ rw (h .reads K) (emits-append es (h .events) (run c (left ++ K) end (rest t next)));
+    reads = λ K. f K ∙ rw (h .reads K) (emits-emits es (h .events) (run c (left ++ K) end (rest t next)));
   })
   first es w f (stops k h) = stops (k ∙ w .kept) (λ K. f K ∙ ap (emits es) (h K))
 
@@ -104,5 +104,5 @@ module _ {c : Bool} {t : List ℕ} where
     onward = omega arith;
     inside = i .0;
     fits = i .1;
-    reads = λ K. close-now c code start l K (rest t at);
+    reads = λ K. run-close c code start l K (rest t at);
   })

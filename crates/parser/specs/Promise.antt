@@ -6,7 +6,7 @@ use mathlib.Core.List.{List, _++_}
 use lib.ListN.{length}
 use Rattle.base.specs.Item.{Item}
 use Rattle.rules.specs.Items.{items}
-use Rattle.syntax.specs.Machine.{Sym, Read, refused, emits, run}
+use Rattle.syntax.specs.Machine.{Sym, refused, emits, run}
 use Rattle.parser.specs.declared.Step.{Step}
 use Rattle.parser.specs.declared.Step.the-variants.{Done, Stop}
 use Rattle.parser.specs.View.{rest}

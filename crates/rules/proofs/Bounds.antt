@@ -4,12 +4,10 @@ use mathlib.Core.Path.{_≡_, refl}
 use mathlib.Core.List.{List, [], _∷_, _++_}
 use mathlib.Core.Bool.{Bool, true, false}
 use native.Mathlib.Omega.{arith}
-use lib.Dec.{eqb}
 use lib.ListN.{length, length-append}
-use Rattle.base.specs.Text.{pick, starts}
-use Rattle.base.specs.Text.{from}
+use Rattle.base.specs.Text.{starts}
 use Rattle.rules.specs.Rules.{FloatValue, fraction, exponent, both, Rule, whitespace, comment, punctuator, spread, name, int, float, string}
-use Rattle.utf8.specs.Sequence.{width, size}
+use Rattle.utf8.specs.Sequence.{size}
 use Rattle.rules.specs.Errors.{LeadingZero, nought, minusNought, OpenFloat, toPoint, toMark, toSign, Fault, unexpected, secondDigit, suffix, noFraction, afterFraction, afterExponent, noExponent, noSigned, minus, ended, twoDots, oneDot, loneQuote, unterminated, inString, Stands, token, error}
 use Rattle.rules.specs.Items.{errorAt, itemAt}
 use Rattle.base.proofs.Tests.{apart}

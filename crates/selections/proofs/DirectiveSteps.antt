@@ -12,7 +12,8 @@ use Rattle.parser.specs.declared.Step.the-variants.{Done}
 use Rattle.parser.specs.View.{rest, tokenOf, Front}
 use Rattle.parser.specs.Events.{Puts}
 use Rattle.parser.specs.Promise.{Took, Ready, Goes}
-use Rattle.parser.proofs.Moves.{emits-append, run-at, took-one}
+use Rattle.syntax.proofs.Steps.{emits-emits}
+use Rattle.parser.proofs.Moves.{run-at, took-one}
 use Rattle.parser.proofs.Onward.{same, closed}
 
 -- ---- the reader's step at a token t
@@ -65,4 +66,4 @@ module _ (c : Bool) (t : List ℕ) (l i d : ℕ) (p : Peeked) (F : Front t i p) 
   directives-begin k K =
       run-at c t l i p F (optDirectives d ∷ K)
       ∙ rw (directives-open c l d (tokenOf p) K k, run-at c t l i p F (directives d (p .start) ∷ K), directive-open c l d (tokenOf p) K (p .start) k)
-      (sym (emits-append (opens 20 (p .start) ∷ []) (opens 21 (p .start) ∷ tokenEvent (tokenOf p) ∷ []) (run c (name ∷ optArguments d ∷ close 21 (p .start) ∷ directives d (p .start) ∷ K) (endOf (tokenOf p)) (rest t (p .next)))))
+      (sym (emits-emits (opens 20 (p .start) ∷ []) (opens 21 (p .start) ∷ tokenEvent (tokenOf p) ∷ []) (run c (name ∷ optArguments d ∷ close 21 (p .start) ∷ directives d (p .start) ∷ K) (endOf (tokenOf p)) (rest t (p .next)))))

@@ -18,7 +18,8 @@ use Rattle.parser.specs.View.{Holds, rest, tokenOf, Front}
 use Rattle.parser.specs.Events.{Puts}
 use Rattle.parser.specs.Promise.{Took, Outcome, stopped, Ready, Goes, halted}
 use Rattle.parser.proofs.Events.{puts-none}
-use Rattle.parser.proofs.Moves.{moved-also, narrow, run-at, took-one, stop-one, then, same-due, Passed, passed-then}
+use Rattle.syntax.proofs.Steps.{moved-also}
+use Rattle.parser.proofs.Moves.{narrow, run-at, took-one, stop-one, then, same-due, Passed, passed-then}
 use Rattle.parser.proofs.Onward.{below, after, same, nothing}
 use Rattle.selections.specs.Follows.{beginsSelection, leads, follows}
 

@@ -1,6 +1,6 @@
 -- What the answers mean, and the machine of strings that the code runs: proved to give the items of document 01, the machine need not be
 -- believed. Assumes nothing: these are definitions.
-use Prim.Native.Nat.{ℕ, suc, _+_, _-_, min}
+use Prim.Native.Nat.{ℕ, _+_, _-_, min}
 use mathlib.Core.Path.{_≡_}
 use mathlib.Core.Bool.{Bool, true, false, not, _&&_}
 use mathlib.Core.List.{List, [], _∷_}

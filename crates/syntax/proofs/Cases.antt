@@ -1,19 +1,17 @@
 -- Readings of document 01 on the grammar that are easy to get wrong: antt computes each. Assumes nothing.
-use Prim.Native.Nat.{ℕ}
 use mathlib.Core.Path.{_≡_, refl}
-use mathlib.Core.List.{List, [], _∷_}
-use Rattle.base.specs.Item.{Item, item}
+use mathlib.Core.List.{[], _∷_}
+use Rattle.base.specs.Item.{item}
 use Rattle.base.specs.Run.{run as runOf}
 use Rattle.base.specs.Span.{span}
 use Rattle.utf8.specs.Sequence.{width, size}
-use Rattle.utf8.specs.Encode.{scalar}
 use Rattle.tiles.specs.Tiles.{tiles}
 use Rattle.rules.specs.Classes.{digit, nonzero, letter, nameStart, nameContinue, lineEnd, exponentMark, sign, afterNumber}
 use Rattle.rules.specs.Tokens.{blankBy, blank, wholeSize, integerSize, fractionSize, signedSize, exponentSize, numberBy, numberToken, punctuatorAt, spreadAt, stringToken, tokenAt}
 use Rattle.rules.specs.Items.{fractionFault, exponentFault, numberFault, dotFault, errorAt, itemAt}
 use Rattle.syntax.specs.Token.{isName, isEnum, isFragmentName}
 use Rattle.syntax.specs.Words.{same, wordOf, tokenOf, ignored, significant, tokens}
-use Rattle.syntax.specs.Machine.{atValue, atItems, atFields, atName, atColon, atNamedType, orSelectionSet, orSelection, atSelections, orArguments, orArgument, atArguments, orDirective, atSpread, step, Read, refused, accepted, run, readValue, readConstant, readSelectionSet}
+use Rattle.syntax.specs.Machine.{atValue, atItems, atFields, atName, atColon, atNamedType, orSelectionSet, orSelection, atSelections, orArguments, orArgument, atArguments, orDirective, atSpread, step, refused, accepted, run, readValue, readConstant, readSelectionSet}
 use Rattle.syntax.specs.TypeReading.{withBang, withBracket, typeAt, wholeType, readType}
 
 readings :

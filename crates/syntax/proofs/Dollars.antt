@@ -3,15 +3,14 @@
 use Prim.Native.Nat.{ℕ, zero, suc, _≤_}
 use native.Mathlib.Omega.{arith}
 use mathlib.Core.Path.{_≡_, refl, sym, ap, _∙_}
-use mathlib.Core.Bool.{Bool, true, false}
+use mathlib.Core.Bool.{Bool, true}
 use mathlib.Core.List.{List, [], _∷_, _++_, append-assoc, append-nil}
-use lib.Dec.{eqb}
 use borrow.Author.Tests.{eq-eqb}
 use Rattle.base.specs.Item.{Item}
 use Rattle.syntax.specs.Token.{eof, dollar, int, isName, isEnum, isFragmentName, Token, token, endOf}
 use Rattle.syntax.specs.Grammar.{Span, of, Value, valueTokens, valueEvents, valueDepth}
-use Rattle.syntax.specs.Machine.{Sym, value, deeper, items, fields, name, colonDue, close, selectionSet, optSelectionSet, firstSelection, selections, named, spread, optArguments, firstArgument, arguments, optDirectives, directives, namedType, Move, go, stop, halt, also, atValue, atItems, atFields, atName, atColon, atNamedType, orSelectionSet, orSelection, atSelections, orArguments, orArgument, atArguments, orDirective, atSpread, step, Read, refused, accepted, emits, moved, run, readConstant}
-use Rattle.syntax.proofs.Steps.{emits-emits, emits-accepted}
+use Rattle.syntax.specs.Machine.{Sym, value, deeper, items, fields, name, colonDue, close, selectionSet, optSelectionSet, firstSelection, selections, named, spread, optArguments, firstArgument, arguments, optDirectives, directives, namedType, Move, go, stop, halt, also, atValue, atItems, atFields, atName, atColon, atNamedType, orSelectionSet, orSelection, atSelections, orArguments, orArgument, atArguments, orDirective, atSpread, step, refused, accepted, emits, run, readConstant}
+use Rattle.syntax.proofs.Steps.{emits-emits, emits-none, emits-accepted}
 use Rattle.syntax.proofs.Sound.{sound, eof-sound, NoEof}
 use Rattle.syntax.proofs.Forms.{tokensOf}
 use Rattle.syntax.proofs.ValueComplete.{value-accepted}
@@ -73,10 +72,6 @@ record Reach (K : List Sym) (l : ℕ) (us : List Token) : Type 0 where
   given : List Item
   all : (ws : List Token) → run true K l (us ++ ws) ≡ emits given (run true due end ws)
 
-emits-nothing : (a : Read) → a ≡ emits [] a
-emits-nothing (refused n p) = refl
-emits-nothing (accepted es) = refl
-
 reach-step : (u : Token) (us : List Token) (K : List Sym) (l : ℕ) (ws : List Token) (es : List Item) → NoEof (u ∷ us) → run true K l (u ∷ (us ++ ws)) ≡ accepted es
     → ((K′ : List Sym) (l′ : ℕ) (fs : List Item) → run true K′ l′ (us ++ ws) ≡ accepted fs → Reach K′ l′ us) → (m : Move) → step true l K u ≡ m → Reach K l (u ∷ us)
 unfolding run
@@ -90,7 +85,7 @@ reach-step u us K l ws es n h f (halt fs) e =
 
 reach : (us : List Token) (K : List Sym) (l : ℕ) (ws : List Token) (es : List Item) → NoEof us → run true K l (us ++ ws) ≡ accepted es → Reach K l us
 unfolding run
-reach [] K l ws es n h = record { due = K; end = l; given = []; all = λ vs. emits-nothing (run true K l vs) }
+reach [] K l ws es n h = record { due = K; end = l; given = []; all = λ vs. sym (emits-none (run true K l vs)) }
 reach (u ∷ us) K l ws es n h = reach-step u us K l ws es n h (λ K′ l′ fs g. reach us K′ l′ ws fs (n .1) g) (step true l K u) refl
 
 -- us stand before the `$`, and some constant within the limit has an Int there

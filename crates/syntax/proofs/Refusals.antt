@@ -15,7 +15,7 @@ use Rattle.syntax.specs.Grammar.{Span, of, Word, Name, FragmentWord, Val
 use Rattle.syntax.specs.Selections as trees
 use Rattle.syntax.specs.Selections.{oneArgument, noArguments, noDirectives, noAlias, SelectionSet, oneSelection, field, noSelectionSet, setTokens, setEvents, setDepth}
 use Rattle.syntax.specs.Machine.{Sym, value, deeper, items, fields, name, colonDue, close, selectionSet, optSelectionSet, firstSelection, selections, named, spread, optArguments, firstArgument, arguments, optDirectives, directives, namedType, Move, go, stop, halt, also, atValue, atDeeper, atItems, atFields, atName, atColon, atNamedType, orSelectionSet, orSelection, atFirstSelection, atSelections, afterName, orArguments, orArgument, atArguments, orDirective, orDirectives, atSpread, step, Read, refused, accepted, emits, moved, run, readSelectionSet}
-use Rattle.syntax.proofs.Steps.{emits-emits, emits-refused, join-first}
+use Rattle.syntax.proofs.Steps.{emits-emits, emits-none, emits-refused, join-first}
 use Rattle.syntax.proofs.ValueComplete.{value-accepted}
 use Rattle.syntax.proofs.SetComplete.{set-complete}
 use Rattle.syntax.proofs.Forms.{noMore, Form, aValue, aDeeper, anItems, aFields, aName, aColon, aClose, aSet, anOptSet, aFirst, aSelections, aPlain, aFragment, anOptArguments, aFirstArgument, anArguments, anOptDirectives, aDirectives, aType, formTokens, Forms, none, form, tokensOf}
@@ -122,10 +122,6 @@ pub record Refusal (c : Bool) (K : List Sym) (l : ℕ) (ts : List Token) (n p : 
   -- trees of what is due make trees of what was due
   pub begins : (F : Forms c (lifts due)) → (G : Forms c (lifts K)) × (tokensOf G ≡ before ++ tokensOf F)
 
-emits-nothing : (a : Read) → a ≡ emits [] a
-emits-nothing (refused n p) = refl
-emits-nothing (accepted es) = refl
-
 refusal-step : (c : Bool) (K : List Sym) (l : ℕ) (t : Token) (ts : List Token) (n p : ℕ) (m : Move) → step c l K t ≡ m
     → ((es : List Item) (K′ : List Sym) → m ≡ go es K′ → run c K′ (endOf t) ts ≡ refused n p → Refusal c K′ (endOf t) ts n p)
     → moved m (t .start) (λ K′. run c K′ (endOf t) ts) ≡ refused n p → Refusal c K l (t ∷ ts) n p
@@ -164,8 +160,8 @@ refusal-step c K l t ts n p (stop k) e ih a =
       end = l;
       given = [];
       stops = e ∙ ap stop q;
-      reach = λ ws. emits-nothing (run c K l ws);
-      reach-more = λ ws. emits-nothing (run c (lifts K) l ws);
+      reach = λ ws. sym (emits-none (run c K l ws));
+      reach-more = λ ws. sym (emits-none (run c (lifts K) l ws));
       begins = λ F. (F, refl);
     }
 refusal-step c K l t ts n p (halt es) e ih a = absurd (let z : _≡_ {A = ℕ} 0 1 = cc in omega arith)

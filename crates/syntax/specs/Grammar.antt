@@ -1,11 +1,11 @@
 -- GraphQL September 2025: Value and Value[Const] as trees, with what a tree's tokens are, its events and its depth.
 -- No word here of how a text is read. Assumes nothing: these are definitions.
-use Prim.Native.Nat.{ℕ, suc, max, _-_}
-use mathlib.Core.Bool.{Bool, true, false}
+use Prim.Native.Nat.{ℕ, suc, max}
+use mathlib.Core.Bool.{Bool, false}
 use mathlib.Core.List.{List, [], _∷_, _++_}
 use Rattle.base.specs.Item.{Item}
 use Rattle.codes.specs.EventCodes as nodes
-use Rattle.syntax.specs.Token.{dollar, parenL, parenR, dots, colon, at, bracketL, bracketR, braceL, braceR, plain, string, int, float, wordTrue, wordFalse, wordNull, wordOn, Token, token, endOf, tokenEvent, opens, closes, leaf, nameEvents}
+use Rattle.syntax.specs.Token.{dollar, colon, bracketL, bracketR, braceL, braceR, plain, string, int, float, wordTrue, wordFalse, wordNull, wordOn, Token, token, endOf, tokenEvent, opens, closes, leaf, nameEvents}
 
 -- where a token stands: its first byte, and how many bytes it has
 pub record Span : Type 0 where

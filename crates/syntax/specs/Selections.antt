@@ -5,7 +5,7 @@ use mathlib.Core.Bool.{false}
 use mathlib.Core.List.{List, [], _∷_, _++_}
 use Rattle.base.specs.Item.{Item}
 use Rattle.codes.specs.EventCodes as nodes
-use Rattle.syntax.specs.Token.{parenL, parenR, dots, colon, at, braceL, braceR, wordOn, Token, tokenEvent, leaf, nameEvents}
+use Rattle.syntax.specs.Token.{parenL, parenR, dots, colon, at, braceL, braceR, wordOn, Token, tokenEvent, nameEvents}
 use Rattle.syntax.specs.Grammar.{Span, of, Name, nameToken, FragmentWord, fragmentKind, node, Value, valueTokens, valueEvents, valueDepth}
 
 -- Argument : Name : Value

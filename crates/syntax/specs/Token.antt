@@ -1,6 +1,6 @@
 -- Significant tokens, and the events that they give. Assumes nothing: these are definitions.
 use Prim.Native.Nat.{ℕ, _+_, _-_}
-use mathlib.Core.List.{List, [], _∷_, _++_}
+use mathlib.Core.List.{List, [], _∷_}
 use mathlib.Core.Bool.{Bool, _||_}
 use lib.Dec.{leb, eqb}
 use Rattle.base.specs.Text.{pick, from}

@@ -8,10 +8,9 @@ use mathlib.Core.List.{List, [], _∷_, _++_}
 use lib.Dec.{eqb}
 use lib.ListN.{length, getD}
 use Rattle.base.specs.Text.{pick}
-use Rattle.base.specs.Item.{Item}
 use Rattle.base.proofs.Tests.{apart}
 use Rattle.rules.specs.Items.{items}
-use Rattle.syntax.specs.Token.{bang, bracketL, bracketR, isName, Token, endOf, tokenEvent, opens, closes, nameEvents}
+use Rattle.syntax.specs.Token.{bang, bracketL, isName, Token, endOf, tokenEvent, opens, closes, nameEvents}
 use Rattle.syntax.specs.TypeReading.{TypeRead, typed, untyped, withBang, withBracket, noDepth, typeAt}
 use Rattle.parser.specs.declared.Peeked.{Peeked}
 use Rattle.parser.specs.declared.Step.{Step}

@@ -1,19 +1,18 @@
 -- Lists, objects and fields, turn by turn, on plain values. Assumes nothing.
 use Prim.Native.Nat.{ℕ, zero, suc, _+_, _-_}
-use mathlib.Core.Path.{_≡_, refl, sym, ap, _∙_}
-use mathlib.Core.Bool.{Bool, true, false}
+use mathlib.Core.Path.{_≡_, refl, sym, _∙_}
+use mathlib.Core.Bool.{Bool, false}
 use mathlib.Core.List.{List, [], _∷_, _++_}
 use native.Mathlib.Omega.{arith}
-use lib.ListN.{length}
 use Rattle.syntax.specs.Token.{isName, Token, endOf, tokenEvent, opens, closes}
-use Rattle.syntax.specs.Machine.{Sym, value, deeper, items, fields, close, go, stop, step, refused, run}
+use Rattle.syntax.specs.Machine.{Sym, value, deeper, items, fields, go, refused, run}
 use Rattle.parser.specs.declared.Peeked.{Peeked}
 use Rattle.parser.specs.declared.Step.{Step}
 use Rattle.parser.specs.View.{rest, tokenOf, Front}
 use Rattle.parser.specs.Events.{Puts}
-use Rattle.parser.specs.Promise.{Took, Outcome, took, stopped}
-use Rattle.parser.proofs.Moves.{run-at, took-one, took-closed, stop-one, then, above, same-due, was-done, was-stopped, Passed, passed-then}
-use Rattle.values.proofs.Steps.{name-kind, at-bracket, at-brace, list-ends, list-cut, list-deep, list-item, object-ends, object-none, too-deep, one-deeper}
+use Rattle.parser.specs.Promise.{Took, Outcome}
+use Rattle.parser.proofs.Moves.{run-at, took-one, stop-one, then, above, same-due, Passed, passed-then}
+use Rattle.values.proofs.Steps.{at-bracket, at-brace, list-ends, list-cut, list-deep, list-item, object-ends, object-none, too-deep, one-deeper}
 
 -- with depth left, an item of a list is a value with one level less
 item-run : (c : Bool) (t : List ℕ) (l at d s : ℕ) (p : Peeked) → Front t at p → (p .kind ≡ 14 → ⊥) → (p .kind ≡ 0 → ⊥) → (d ≡ 0 → ⊥)

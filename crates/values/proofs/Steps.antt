@@ -1,16 +1,15 @@
 -- What the reader's definition does at a token, by the token's kind. Assumes nothing.
-use Prim.Native.Nat.{ℕ, _<_, _≤_}
-use mathlib.Core.Path.{_≡_, refl, sym, _∙_}
-use mathlib.Core.Bool.{Bool, true, false, _||_}
+use Prim.Native.Nat.{ℕ, _<_}
+use mathlib.Core.Path.{_≡_, refl, sym}
+use mathlib.Core.Bool.{Bool, true, false}
 use mathlib.Core.List.{List, [], _∷_, _++_}
 use native.Mathlib.Omega.{arith}
-use borrow.Author.Tests.{eq-eqb, ne-eqb, eqb-true, eqb-false}
+use borrow.Author.Tests.{eq-eqb, ne-eqb, eqb-true}
 use lib.Dec.{eqb}
-use Rattle.base.specs.Text.{pick, from}
-use Rattle.base.specs.Item.{Item}
-use Rattle.base.proofs.Tests.{by, or-true, or-false, from-true, apart}
+use Rattle.base.specs.Text.{from}
+use Rattle.base.proofs.Tests.{by, or-true, from-true, apart}
 use Rattle.syntax.specs.Token.{isName, isEnum, Token, endOf, tokenEvent, opens, closes, leaf, nameEvents}
-use Rattle.syntax.specs.Machine.{Sym, value, deeper, items, fields, name, colonDue, close, Move, go, stop, atValue, atItems, atFields, atName, atColon, step}
+use Rattle.syntax.specs.Machine.{Sym, value, deeper, items, fields, name, colonDue, close, go, stop, atValue, atItems, atFields, atName, atColon, step}
 use Rattle.values.specs.Scalars.{scalarNode}
 
 -- the kinds of a Name

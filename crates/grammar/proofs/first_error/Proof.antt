@@ -1,8 +1,7 @@
 -- `grammar::first_error` meets its contract. The invariant: no item before number i is an error. Assumes nothing.
-use mathlib.Core.Path.{_≡_, refl, sym, ap, _∙_}
+use mathlib.Core.Path.{_≡_, ap, _∙_}
 use Prim.Native.Nat.{_+_, _-_, _≤_, _<_}
 use native.Mathlib.Omega.{arith}
-use borrow.Author.Needs.{needs}
 use lib.ListN.{length, drop}
 use Rattle.base.specs.Item.{Item}
 use Rattle.rules.specs.Items.{items as itemsOf}

@@ -1,5 +1,4 @@
 -- `parser::put_close` meets its contract. Assumes nothing.
-use mathlib.Core.Path.{_≡_, refl, sym, ap, _∙_}
 use borrow.Author.Needs.{needs}
 use Rattle.parser.proofs.put_close.Statement.{statement}
 use Rattle.parser.proofs.put_close.Tie as tie

@@ -1,5 +1,4 @@
 -- `parser::put_leaf` meets its contract. Assumes nothing.
-use mathlib.Core.Path.{_≡_, refl, sym, ap, _∙_}
 use Rattle.parser.proofs.Events.{puts-then}
 use borrow.Author.Needs.{needs}
 use Rattle.parser.proofs.put_leaf.Statement.{statement}

@@ -1,5 +1,5 @@
 -- `parser::token_kind` meets its contract. Assumes nothing.
-use mathlib.Core.Path.{_≡_, refl, sym, ap, _∙_}
+use mathlib.Core.Path.{ap, _∙_}
 use borrow.Author.Tests.{ne-eqb}
 use Rattle.syntax.specs.Words.{wordOf, tokenOf}
 use Rattle.parser.proofs.View.{part-in}

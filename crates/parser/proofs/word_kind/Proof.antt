@@ -1,5 +1,5 @@
 -- `parser::word_kind` meets its contract, word by word. Assumes nothing.
-use mathlib.Core.Path.{_≡_, refl, sym, ap, _∙_}
+use mathlib.Core.Path.{sym, _∙_}
 use Rattle.syntax.specs.Words.{wordOf}
 use borrow.Author.Needs.{needs}
 use Rattle.parser.proofs.word_kind.Statement.{statement}

@@ -1,5 +1,5 @@
 -- `parser::write` meets its contract. Assumes nothing.
-use mathlib.Core.Path.{_≡_, refl, sym, ap, _∙_}
+use mathlib.Core.Path.{_∙_}
 use native.Mathlib.Omega.{arith}
 use Rattle.base.specs.Item.{item}
 use Rattle.parser.proofs.Events.{store-in, store-out}

@@ -1,9 +1,6 @@
 -- `replay::number` is safe and ends. Assumes nothing.
-use mathlib.Core.Path.{_≡_, refl, sym, _∙_}
 use Prim.Native.Nat.{_≤_, _-_}
-use native.Mathlib.Omega.{arith}
 use borrow.Author.Needs.{needs}
-use lib.ListN.{length, length-set}
 use Rattle.replay.proofs.number.Statement.{statement}
 use Rattle.replay.proofs.number.Tie as tie
 

@@ -1,6 +1,6 @@
 -- `replay::one_case` is safe and ends. Assumes nothing.
-use mathlib.Core.Path.{_≡_, refl, sym, _∙_}
-use Prim.Native.Nat.{_≤_, _-_}
+use mathlib.Core.Path.{sym}
+use Prim.Native.Nat.{_-_}
 use native.Mathlib.Omega.{arith}
 use lib.ListN.{length-take, length-append, length-drop}
 use lib.Seq.{length-take-le}

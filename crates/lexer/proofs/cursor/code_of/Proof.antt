@@ -1,5 +1,5 @@
 -- `lexer::cursor::code_of` meets its contract, case by case. Assumes nothing.
-use mathlib.Core.Path.{_≡_, refl, sym, ap, _∙_}
+use mathlib.Core.Path.{sym, ap}
 use native.Mathlib.Omega.{arith}
 use Rattle.lexer.specs.Scan.{codeOf}
 use borrow.Author.Needs.{needs}

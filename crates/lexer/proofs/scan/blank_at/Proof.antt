@@ -1,5 +1,5 @@
 -- `lexer::scan::blank_at` meets its contract: the class of the first byte, or the three bytes of U+FEFF. Assumes nothing.
-use mathlib.Core.Path.{_≡_, refl, sym, ap, _∙_}
+use mathlib.Core.Path.{sym, ap, _∙_}
 use Rattle.lookup.specs.Class.{classOf}
 use Rattle.lexer.proofs.Blanks.{blank-one, blank-mark, blank-none}
 use borrow.Author.Needs.{needs}

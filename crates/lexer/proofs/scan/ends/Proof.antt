@@ -1,5 +1,4 @@
 -- `lexer::scan::ends` meets its contract. Assumes nothing.
-use borrow.Author.Needs.{needs}
 use Rattle.lexer.proofs.Lexed.{token-lexed}
 use Rattle.lexer.proofs.scan.ends.Statement.{statement}
 use Rattle.lexer.proofs.scan.ends.Tie as tie

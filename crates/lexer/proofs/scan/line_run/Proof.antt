@@ -1,13 +1,13 @@
 -- `lexer::scan::line_run` meets its contract. The invariant: the run of the whole is i and the run of what is left from i on. Assumes nothing.
-use Prim.Native.Nat.{ℕ, suc, _+_, _-_, _≤_}
-use mathlib.Core.Path.{_≡_, refl, sym, ap, _∙_}
+use Prim.Native.Nat.{_+_, _-_, _≤_}
+use mathlib.Core.Path.{_≡_}
 use native.Mathlib.Omega.{arith}
 use borrow.Author.Needs.{needs}
 use native.Mathlib.Numerals.{add-one}
-use lib.ListN.{length, drop, getD}
+use lib.ListN.{length, drop}
 use Rattle.base.specs.Run.{run}
 use Rattle.base.proofs.Runs.{run-here, run-stop, run-over}
-use borrow.Author.Tests.{eq-eqb, ne-eqb}
+use borrow.Author.Tests.{ne-eqb}
 use Rattle.rules.specs.Classes.{lineEnd, notLineEnd}
 use Rattle.lexer.proofs.scan.line_run.Statement.{statement}
 use Rattle.lexer.proofs.scan.line_run.Tie as tie

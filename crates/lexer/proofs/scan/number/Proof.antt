@@ -1,5 +1,5 @@
 -- `lexer::scan::number` meets its contract, case by case. Assumes nothing.
-use mathlib.Core.Path.{_≡_, refl, sym, ap, _∙_, subst}
+use mathlib.Core.Path.{sym, ap, _∙_, subst}
 use Rattle.numbers.specs.Number.{meaning, IsToken}
 use Rattle.lexer.specs.Scan.{lexedOf}
 use Rattle.lexer.proofs.Lexed.{token-lexed, error-lexed}

@@ -1,5 +1,5 @@
 -- `lexer::scan::other` meets its contract. Assumes nothing.
-use mathlib.Core.Path.{_≡_, refl, sym, ap, _∙_}
+use mathlib.Core.Path.{sym, ap, _∙_}
 use native.Mathlib.Omega.{arith}
 use Rattle.base.specs.Item.{lexeme}
 use Rattle.lexer.proofs.Fronts.{other-item}

@@ -1,5 +1,5 @@
 -- `lexer::scan::scan` meets its contract: the class of the first byte tells which scanner. Assumes nothing.
-use mathlib.Core.Path.{_≡_, refl, sym, ap, _∙_}
+use mathlib.Core.Path.{sym, ap, _∙_}
 use native.Mathlib.Omega.{arith}
 use Rattle.lookup.proofs.Classes.{class-name, class-hash, class-dot, class-number, class-bounds}
 use Rattle.lexer.proofs.Blanks.{blank-one}

@@ -1,5 +1,5 @@
 -- `lexer::scan::whitespace` meets its contract. Assumes nothing.
-use mathlib.Core.Path.{_≡_, refl, sym, ap, _∙_}
+use mathlib.Core.Path.{sym, ap, _∙_}
 use Rattle.base.specs.Item.{lexeme}
 use Rattle.lexer.proofs.Fronts.{blank-item}
 use borrow.Author.Needs.{needs}

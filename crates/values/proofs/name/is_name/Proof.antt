@@ -1,5 +1,5 @@
 -- `values::name::is_name` meets its contract. Assumes nothing.
-use mathlib.Core.Path.{_≡_, refl, sym, ap, _∙_}
+use mathlib.Core.Path.{_∙_}
 use borrow.Author.Tests.{ne-eqb}
 use Rattle.syntax.specs.Token.{isName}
 use borrow.Author.Needs.{needs}

@@ -1,5 +1,5 @@
 -- `values::name::name` meets its contract. Assumes nothing.
-use mathlib.Core.Path.{_≡_, refl, sym, ap, _∙_}
+use mathlib.Core.Path.{refl, sym, _∙_}
 use native.Mathlib.Omega.{arith}
 use mathlib.Core.List.{[], _∷_}
 use borrow.Author.Tests.{not-true, not-false}

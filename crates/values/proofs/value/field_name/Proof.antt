@@ -1,8 +1,7 @@
 -- `values::value::field_name` meets its contract: the name, and its `:`. Assumes nothing.
-use mathlib.Core.Path.{_≡_, refl, sym, ap, _∙_}
 use Prim.Native.Nat.{_+_}
 use native.Mathlib.Omega.{arith}
-use mathlib.Core.List.{List, [], _∷_}
+use mathlib.Core.List.{[], _∷_}
 use Rattle.parser.proofs.Events.{puts-then}
 use Rattle.syntax.specs.Machine.{fields, colonDue, deeper, close}
 use Rattle.parser.specs.View.{tokenOf}

@@ -1,5 +1,4 @@
 -- `values::value::is_enum` meets its contract. Assumes nothing.
-use borrow.Author.Needs.{needs}
 use borrow.Author.Tests.{ne-eqb}
 use Rattle.syntax.specs.Token.{isEnum}
 use Rattle.values.proofs.value.is_enum.Statement.{statement}

@@ -1,9 +1,8 @@
 -- `values::variable::variable` meets its contract: the `$`, a Name, and the node closes. Assumes nothing.
-use mathlib.Core.Path.{_≡_, refl, sym, ap, _∙_}
 use Prim.Native.Nat.{_+_}
 use mathlib.Core.Bool.{false}
 use native.Mathlib.Omega.{arith}
-use mathlib.Core.List.{List, [], _∷_}
+use mathlib.Core.List.{[], _∷_}
 use Rattle.syntax.specs.Machine.{value, name, close}
 use Rattle.parser.specs.View.{tokenOf}
 use Rattle.parser.specs.Promise.{took, stopped}

@@ -1,5 +1,5 @@
 -- `lexer::cursor::Cursor::advance` meets its contract: each way through it, by the laws of proofs/Advance. Assumes nothing.
-use mathlib.Core.Path.{_≡_, refl, sym, ap, _∙_}
+use mathlib.Core.Path.{sym, ap, _∙_}
 use Prim.Native.Nat.{_-_}
 use native.Mathlib.Omega.{arith}
 use borrow.Author.Tests.{ne-eqb}

@@ -1,5 +1,5 @@
 -- `lexer::cursor::Cursor::done` meets its contract. Assumes nothing.
-use mathlib.Core.Path.{_≡_, refl, sym, ap, _∙_}
+use mathlib.Core.Path.{_∙_}
 use native.Mathlib.Omega.{arith}
 use Rattle.lexer.proofs.Steps.{done-kept, done-clear}
 use borrow.Author.Needs.{needs}

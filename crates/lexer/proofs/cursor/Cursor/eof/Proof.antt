@@ -1,8 +1,7 @@
 -- `lexer::cursor::Cursor::eof` meets its contract, state by state. Assumes nothing.
-use mathlib.Core.Path.{_≡_, refl, sym, ap, _∙_}
+use mathlib.Core.Path.{ap, _∙_}
 use native.Mathlib.Omega.{arith}
 use Rattle.strings.specs.String.{endOf}
-use Rattle.lexer.specs.declared.state.State.{State}
 use Rattle.lexer.specs.Cursor.{eofOf}
 use Rattle.lexer.proofs.Steps.{unterminated, eof-string}
 use borrow.Author.Needs.{needs}

@@ -1,5 +1,5 @@
 -- `lexer::cursor::Cursor::eof_number` meets its contract, state by state. Assumes nothing.
-use mathlib.Core.Path.{_≡_, refl, sym, ap, _∙_}
+use mathlib.Core.Path.{_∙_}
 use Rattle.lexer.specs.Cursor.{eofOf}
 use borrow.Author.Needs.{needs}
 use Rattle.lexer.proofs.cursor.Cursor.eof_number.Statement.{statement}

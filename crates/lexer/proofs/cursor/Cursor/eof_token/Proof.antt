@@ -1,5 +1,5 @@
 -- `lexer::cursor::Cursor::eof_token` meets its contract. Assumes nothing.
-use mathlib.Core.Path.{_≡_, refl, sym, ap, _∙_}
+use mathlib.Core.Path.{_∙_}
 use Rattle.lexer.proofs.Steps.{end-kept, end-clear}
 use borrow.Author.Needs.{needs}
 use Rattle.lexer.proofs.cursor.Cursor.eof_token.Statement.{statement}
