@@ -7,8 +7,9 @@ use lib.Dec.{ltb, leb, eqb}
 use lib.ListN.{length}
 use Rattle.base.specs.Text.{pick}
 use Rattle.base.specs.Item.{Item}
+use Rattle.codes.specs.Refusals.{done, depthLimit, errorItem, eventTapeShort}
 use Rattle.codes.specs.ItemCodes as codes
-pub use Rattle.codes.specs.Bounds.{deepest}
+pub use Rattle.codes.specs.Refusals.{deepest}
 use Rattle.tape.specs.Entry.{room, entries, over}
 use Rattle.rules.specs.Items.{items as itemsOf}
 use Rattle.reader.specs.declared.Answer.{Answer}
@@ -41,18 +42,18 @@ firstError (x ∷ xs) = pick (isError x) 0 (suc (firstError xs))
 -- 0: "the place is the text's length, the item count includes Eof, and a grammar entry's event count is the events written"
 unfoldable pub readAnswer : (size count space : ℕ) → Read → Answer
 readAnswer size count space (refused number place) = answer number place count 0
-readAnswer size count space (accepted es) = pick (leb (length es) space) (answer 0 size count (length es)) (answer 10 0 count (length es))
+readAnswer size count space (accepted es) = pick (leb (length es) space) (answer done size count (length es)) (answer eventTapeShort 0 count (length es))
 
 -- 6: "grammar entry, an error item exists": place: start of the first; all items stay
 unfoldable pub itemsAnswer : List Item → Answer → Answer
-itemsAnswer xs a = pick (ltb (firstError xs) (length xs)) (answer 6 (unread (firstError xs) xs) (length xs) 0) a
+itemsAnswer xs a = pick (ltb (firstError xs) (length xs)) (answer errorItem (unread (firstError xs) xs) (length xs) 0) a
 
 -- 1: "grammar entry, depth limit above 500". "Checks run in the order shown; the grammar entries read all items first": where reading items
 -- refuses, that is the answer
 unfoldable pub grammarAnswer : Entry → List ℕ → (limit depth : ℕ) → (items events : List ℕ) → Answer
 grammarAnswer e t limit depth items events =
-    pick (ltb deepest depth) (answer 1 0 0 0)
-    (pick (eqb (answerOf t limit items .number) 0)
+    pick (ltb deepest depth) (answer depthLimit 0 0 0)
+    (pick (eqb (answerOf t limit items .number) done)
     (itemsAnswer (itemsOf t) (readAnswer (length t) (length (itemsOf t)) (room events) (readOf e depth (tokens t))))
     (answerOf t limit items))
 
@@ -68,4 +69,4 @@ countedEvents old (accepted es) = pick (leb (length es) (room old)) (over old (e
 -- the event tape: on 0 the events are on it; "Every refusal leaves the event tape unchanged"
 unfoldable pub grammarEvents : Entry → List ℕ → (limit depth : ℕ) → (items events : List ℕ) → List ℕ
 grammarEvents e t limit depth items events =
-    pick (eqb (grammarAnswer e t limit depth items events .number) 0) (countedEvents events (readOf e depth (tokens t))) events
+    pick (eqb (grammarAnswer e t limit depth items events .number) done) (countedEvents events (readOf e depth (tokens t))) events

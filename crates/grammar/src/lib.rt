@@ -6,7 +6,7 @@ use reader::Answer;
 ghost use mathlib.Core.Path.{_≡_};
 ghost use Prim.Native.Nat.{_≤_};
 ghost use lib.ListN.{length};
-ghost use Rattle.codes.specs.Bounds.{deepest};
+ghost use Rattle.codes.specs.Refusals.{deepest};
 ghost use Rattle.tape.specs.Entry.{room};
 ghost use Rattle.rules.specs.Items.{items as itemsOf};
 ghost use Rattle.syntax.specs.Words.{tokens};

@@ -3,6 +3,7 @@ use Prim.Native.Nat.{ℕ, _-_}
 use lib.Dec.{ltb}
 use Rattle.base.specs.Text.{pick}
 use Rattle.base.specs.Item.{Lexeme, lexeme}
+use Rattle.codes.specs.Errors as errors
 use Rattle.codes.specs.ItemCodes as codes
 use Rattle.numbers.specs.Number as numbers
 use Rattle.strings.specs.String as strings
@@ -19,7 +20,7 @@ endOf state.Start = codes.eof
 endOf state.Ident = codes.name
 endOf state.Whitespace = codes.whitespace
 endOf state.Comment = codes.comment
-endOf state.SpreadOperator = codes.error 10
+endOf state.SpreadOperator = codes.error errors.badSpread
 endOf (state.Number s) = numbers.endOf s
 endOf (state.String s) = strings.endOf s
 

@@ -5,6 +5,7 @@ use mathlib.Core.List.{List, [], _∷_}
 use lib.Dec.{eqb}
 use Rattle.base.specs.Text.{pick}
 use Rattle.base.specs.Item.{Lexeme, lexeme}
+use Rattle.codes.specs.Errors as errors
 use Rattle.codes.specs.ItemCodes as codes
 use Rattle.utf8.specs.Sequence as utf8
 use Rattle.rules.specs.Classes.{digit, nameStart, exponentMark}
@@ -17,13 +18,13 @@ use Rattle.numbers.specs.declared.NumberScan.the-variants as scan
 
 -- the code of the item that the text's end leaves of a number: 8 after `-`, 9 where a float lacks a digit
 abbrev pub endOf : NumberState → ℕ
-endOf MinusSign = codes.error 8
+endOf MinusSign = codes.error errors.minusWithoutDigit
 endOf LeadingZero = codes.int
 endOf IntegerPart = codes.int
-endOf DecimalPoint = codes.error 9
+endOf DecimalPoint = codes.error errors.endsInsideFloat
 endOf FractionalPart = codes.float
-endOf ExponentIndicator = codes.error 9
-endOf ExponentSign = codes.error 9
+endOf ExponentIndicator = codes.error errors.endsInsideFloat
+endOf ExponentSign = codes.error errors.endsInsideFloat
 endOf ExponentDigit = codes.float
 
 -- the item that was found
@@ -43,16 +44,16 @@ unfoldable pub afterInteger : ℕ → NumberStep
 afterInteger b =
     pick (eqb b 46) (Go DecimalPoint)
     (pick (exponentMark b) (Go ExponentIndicator)
-    (pick (nameStart b) (Error 3) Done))
+    (pick (nameStart b) (Error errors.integerSuffix) Done))
 
 -- after a fraction or an exponent, of which the byte does not continue the digits
 unfoldable pub afterFloat : ℕ → NumberStep
-afterFloat b = pick (eqb b 46) (Error 5) (pick (nameStart b) (Error 5) Done)
+afterFloat b = pick (eqb b 46) (Error errors.floatSuffix) (pick (nameStart b) (Error errors.floatSuffix) Done)
 
 -- what a digit does
 unfoldable pub digitStep : NumberState → ℕ → NumberStep
 digitStep MinusSign b = pick (eqb b 48) (Go LeadingZero) (Go IntegerPart)
-digitStep LeadingZero b = Error 2
+digitStep LeadingZero b = Error errors.secondDigit
 digitStep IntegerPart b = Go IntegerPart
 digitStep DecimalPoint b = Go FractionalPart
 digitStep FractionalPart b = Go FractionalPart
@@ -62,13 +63,13 @@ digitStep ExponentDigit b = Go ExponentDigit
 
 -- what any other byte does
 unfoldable pub otherStep : NumberState → ℕ → NumberStep
-otherStep MinusSign b = Error 8
+otherStep MinusSign b = Error errors.minusWithoutDigit
 otherStep LeadingZero b = afterInteger b
 otherStep IntegerPart b = afterInteger b
-otherStep DecimalPoint b = Error 4
+otherStep DecimalPoint b = Error errors.noFractionDigit
 otherStep FractionalPart b = pick (exponentMark b) (Go ExponentIndicator) (afterFloat b)
-otherStep ExponentIndicator b = pick (eqb b 43) (Go ExponentSign) (pick (eqb b 45) (Go ExponentSign) (Error 6))
-otherStep ExponentSign b = Error 7
+otherStep ExponentIndicator b = pick (eqb b 43) (Go ExponentSign) (pick (eqb b 45) (Go ExponentSign) (Error errors.noExponent))
+otherStep ExponentSign b = Error errors.noDigitAfterSign
 otherStep ExponentDigit b = afterFloat b
 
 unfoldable pub stepOf : NumberState → ℕ → NumberStep

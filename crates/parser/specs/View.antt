@@ -4,7 +4,7 @@ use mathlib.Core.Path.{_≡_}
 use mathlib.Core.List.{List, _∷_}
 use lib.ListN.{length, drop, getD}
 use Rattle.codes.specs.ItemCodes as codes
-use Rattle.codes.specs.Bounds.{longest}
+use Rattle.codes.specs.Refusals.{longest}
 use Rattle.tape.specs.Entry.{room, entryOf}
 use Rattle.tiles.specs.Tiles.{eof}
 use Rattle.rules.specs.Items.{items}

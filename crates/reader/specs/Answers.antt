@@ -6,7 +6,8 @@ use lib.Dec.{ltb, leb}
 use lib.ListN.{length, take, getD}
 use Rattle.base.specs.Text.{pick}
 use Rattle.base.specs.Item.{Item}
-pub use Rattle.codes.specs.Bounds.{longest}
+use Rattle.codes.specs.Refusals.{done, tooLong, tokenLimit, itemTapeFull}
+pub use Rattle.codes.specs.Refusals.{longest}
 use Rattle.utf8.specs.declared.Checked.{Checked}
 use Rattle.utf8.specs.declared.Checked.the-variants.{Whole, Refused}
 use Rattle.utf8.specs.Answers.{checkedOf}
@@ -29,9 +30,9 @@ unread n xs = getD xs n (eof 0) .start
 -- 5: "an item is due, item tape full (4 tested before 5)": those items stay; place: first unread byte
 unfoldable pub givenAnswer : (size : ℕ) → List Item → (limit space : ℕ) → Answer
 givenAnswer size xs limit space =
-    pick (leb (length xs) (min limit space)) (answer 0 size (length xs) 0)
-    (pick (leb limit space) (answer 4 (unread limit xs) limit 0)
-    (answer 5 (unread space xs) space 0))
+    pick (leb (length xs) (min limit space)) (answer done size (length xs) 0)
+    (pick (leb limit space) (answer tokenLimit (unread limit xs) limit 0)
+    (answer itemTapeFull (unread space xs) space 0))
 
 -- the tape then: the entries of as many items as the limit and the room let. "Tape bytes past the last entry are unchanged"
 unfoldable pub givenTape : List Item → (limit : ℕ) → List ℕ → List ℕ
@@ -49,7 +50,7 @@ checkedTape (Refused number place) old new = old
 -- 2: "text over 16,777,216 bytes"; tapes unchanged. "Checks run in the order shown"
 unfoldable pub answerOf : List ℕ → (limit : ℕ) → (tape : List ℕ) → Answer
 answerOf t limit tape =
-    pick (ltb longest (length t)) (answer 2 0 0 0)
+    pick (ltb longest (length t)) (answer tooLong 0 0 0)
     (checkedAnswer (checkedOf t) (givenAnswer (length t) (items t) limit (room tape)))
 
 unfoldable pub tapeOf : List ℕ → (limit : ℕ) → (tape : List ℕ) → List ℕ

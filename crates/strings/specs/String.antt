@@ -7,6 +7,7 @@ use mathlib.Core.List.{List, [], _∷_}
 use lib.Dec.{eqb, ltb}
 use Rattle.base.specs.Text.{pick}
 use Rattle.base.specs.Run.{run}
+use Rattle.codes.specs.Errors as errors
 use Rattle.codes.specs.ItemCodes as codes
 use Rattle.utf8.specs.Encode.{scalar}
 use Rattle.rules.specs.Classes.{lineEnd, escapedCharacter, plainCharacter, hexDigit, withDigit, leadSurrogate, trailSurrogate}
@@ -20,14 +21,14 @@ use Rattle.strings.specs.declared.StringScan.{StringScan}
 
 -- the code of the item that the text's end leaves of a string: 11 for a lone quote, 12 for any other
 abbrev pub endOf : StringState → ℕ
-endOf StringLiteralStart = codes.error 11
-endOf StringLiteral = codes.error 12
-endOf StringLiteralBackslash = codes.error 12
-endOf (StringLiteralEscapedUnicode remaining value trail) = codes.error 12
-endOf (StringLiteralEscapedUnicodeVariable value digits) = codes.error 12
-endOf StringLiteralLeadSurrogate = codes.error 12
-endOf StringLiteralLeadSurrogateBackslash = codes.error 12
-endOf BlockStringLiteral = codes.error 12
+endOf StringLiteralStart = codes.error errors.loneQuote
+endOf StringLiteral = codes.error errors.unterminatedString
+endOf StringLiteralBackslash = codes.error errors.unterminatedString
+endOf (StringLiteralEscapedUnicode remaining value trail) = codes.error errors.unterminatedString
+endOf (StringLiteralEscapedUnicodeVariable value digits) = codes.error errors.unterminatedString
+endOf StringLiteralLeadSurrogate = codes.error errors.unterminatedString
+endOf StringLiteralLeadSurrogateBackslash = codes.error errors.unterminatedString
+endOf BlockStringLiteral = codes.error errors.unterminatedString
 
 -- the number with one hex digit more, which stays at 110000 once there
 unfoldable pub capped : ℕ → ℕ → ℕ
@@ -36,54 +37,54 @@ capped v b = min (withDigit v b) 0x110000
 -- where a character, an escape or the closing quote may stand
 unfoldable pub inText : ℕ → StringStep
 inText b =
-    pick (eqb b 34) (Close 0)
-    (pick (eqb b 92) (Go StringLiteralBackslash 0)
-    (pick (lineEnd b) (Go StringLiteral 13) (Go StringLiteral 0)))
+    pick (eqb b 34) (Close errors.none)
+    (pick (eqb b 92) (Go StringLiteralBackslash errors.none)
+    (pick (lineEnd b) (Go StringLiteral errors.lineTerminator) (Go StringLiteral errors.none)))
 
 -- straight after the opening quote
 unfoldable pub startStep : ℕ → StringStep
-startStep b = pick (lineEnd b) (Go StringLiteral 0) (inText b)
+startStep b = pick (lineEnd b) (Go StringLiteral errors.none) (inText b)
 
 -- after a backslash
 unfoldable pub backslashStep : ℕ → StringStep
 backslashStep b =
-    pick (escapedCharacter b) (Go StringLiteral 0)
-    (pick (eqb b 117) (Go (StringLiteralEscapedUnicode 4 0 false) 0) (Go StringLiteral 14))
+    pick (escapedCharacter b) (Go StringLiteral errors.none)
+    (pick (eqb b 117) (Go (StringLiteralEscapedUnicode 4 0 false) errors.none) (Go StringLiteral errors.badEscape))
 
 -- a hex digit is due and another character stands there
 unfoldable pub noDigit : ℕ → StringStep
-noDigit b = pick (eqb b 34) (Close 16) (Go StringLiteral 15)
+noDigit b = pick (eqb b 34) (Close errors.quoteInsideEscape) (Go StringLiteral errors.nonHex)
 
 -- a four-digit escape is whole
 unfoldable pub wholeUnicode : ℕ → Bool → StringStep
-wholeUnicode v true = pick (trailSurrogate v) (Go StringLiteral 0) (Go StringLiteral 17)
+wholeUnicode v true = pick (trailSurrogate v) (Go StringLiteral errors.none) (Go StringLiteral errors.unpairedSurrogate)
 wholeUnicode v false =
-    pick (leadSurrogate v) (Go StringLiteralLeadSurrogate 0)
-    (pick (trailSurrogate v) (Go StringLiteral 17) (Go StringLiteral 0))
+    pick (leadSurrogate v) (Go StringLiteralLeadSurrogate errors.none)
+    (pick (trailSurrogate v) (Go StringLiteral errors.unpairedSurrogate) (Go StringLiteral errors.none))
 
 -- in a four-digit escape
 unfoldable pub unicodeStep : ℕ → ℕ → Bool → ℕ → StringStep
 unicodeStep r v p b =
     pick (hexDigit b)
-    (pick (ltb 1 r) (Go (StringLiteralEscapedUnicode (r - 1) (capped v b) p) 0) (wholeUnicode (capped v b) p))
-    (pick (eqb b 123 && (eqb r 4 && not p)) (Go (StringLiteralEscapedUnicodeVariable 0 false) 0) (noDigit b))
+    (pick (ltb 1 r) (Go (StringLiteralEscapedUnicode (r - 1) (capped v b) p) errors.none) (wholeUnicode (capped v b) p))
+    (pick (eqb b 123 && (eqb r 4 && not p)) (Go (StringLiteralEscapedUnicodeVariable 0 false) errors.none) (noDigit b))
 
 -- in a braced escape
 unfoldable pub variableStep : ℕ → Bool → ℕ → StringStep
 variableStep v d b =
-    pick (hexDigit b) (Go (StringLiteralEscapedUnicodeVariable (capped v b) true) 0)
-    (pick (eqb b 125) (pick (d && scalar v) (Go StringLiteral 0) (Go StringLiteral 18))
+    pick (hexDigit b) (Go (StringLiteralEscapedUnicodeVariable (capped v b) true) errors.none)
+    (pick (eqb b 125) (pick (d && scalar v) (Go StringLiteral errors.none) (Go StringLiteral errors.badBracedEscape))
     (noDigit b))
 
 -- after a lead surrogate
 unfoldable pub leadStep : ℕ → StringStep
 leadStep b =
-    pick (eqb b 92) (Go StringLiteralLeadSurrogateBackslash 0)
-    (pick (eqb b 34) (Close 17) (Go StringLiteral 17))
+    pick (eqb b 92) (Go StringLiteralLeadSurrogateBackslash errors.none)
+    (pick (eqb b 34) (Close errors.unpairedSurrogate) (Go StringLiteral errors.unpairedSurrogate))
 
 -- after a lead surrogate and a backslash
 unfoldable pub leadBackslashStep : ℕ → StringStep
-leadBackslashStep b = pick (eqb b 117) (Go (StringLiteralEscapedUnicode 4 0 true) 0) (Go StringLiteral 17)
+leadBackslashStep b = pick (eqb b 117) (Go (StringLiteralEscapedUnicode 4 0 true) errors.none) (Go StringLiteral errors.unpairedSurrogate)
 
 unfoldable pub stringStep : StringState → ℕ → StringStep
 stringStep StringLiteralStart b = startStep b
@@ -97,7 +98,7 @@ stringStep BlockStringLiteral b = inText b
 
 -- the later fault counts; 0 is none
 unfoldable pub laterOf : ℕ → ℕ → ℕ
-laterOf kept fault = pick (eqb fault 0) kept fault
+laterOf kept fault = pick (eqb fault errors.none) kept fault
 
 -- a scan that began n bytes earlier
 abbrev pub further : ℕ → StringScan → StringScan
@@ -140,4 +141,4 @@ pub record StringScans (kept : ℕ) (t : List ℕ) (r : StringScan) : Type 0 whe
   -- its last fault, or the kept one
   pub faults : r .fault ≡ last kept (stringScan t .faults)
   -- at the text's end: error 11 for a lone quote, else 12
-  pub ends : r .closed ≡ false → endOf (r .state) ≡ pick (eqb (r .size) 1) (codes.error 11) (codes.error 12)
+  pub ends : r .closed ≡ false → endOf (r .state) ≡ pick (eqb (r .size) 1) (codes.error errors.loneQuote) (codes.error errors.unterminatedString)

@@ -7,6 +7,7 @@ use mathlib.Core.List.{List, [], _∷_, _++_}
 use lib.Dec.{eqb}
 use Rattle.base.specs.Text.{pick}
 use Rattle.base.specs.Item.{Item}
+use Rattle.codes.specs.Refusals.{tooDeep, dollarInConstant, noSentence}
 use Rattle.codes.specs.EventCodes as nodes
 use Rattle.syntax.specs.Token.{eof, dollar, parenL, parenR, dots, colon, at, bracketL, bracketR, braceL, braceR, string, int, float, wordTrue, wordFalse, wordNull, wordOn, isName, isEnum, isFragmentName, Token, endOf, tokenEvent, opens, closes, leaf, nameEvents}
 
@@ -75,34 +76,34 @@ atValue c r K t =
     (pick (eqb (t .kind) bracketL) (go (opens nodes.listValue (t .start) ∷ tokenEvent t ∷ []) (items r (t .start) ∷ K))
     (pick (eqb (t .kind) braceL) (go (opens nodes.objectValue (t .start) ∷ tokenEvent t ∷ []) (fields r (t .start) ∷ K))
     (pick (eqb (t .kind) dollar)
-    (pick c (stop 8) (go (opens nodes.variable (t .start) ∷ tokenEvent t ∷ []) (name ∷ close nodes.variable (t .start) ∷ K)))
-    (stop 9))))))))))
+    (pick c (stop dollarInConstant) (go (opens nodes.variable (t .start) ∷ tokenEvent t ∷ []) (name ∷ close nodes.variable (t .start) ∷ K)))
+    (stop noSentence))))))))))
 
 -- one level deeper: 7 where no depth is left, whatever stands there
 abbrev pub atDeeper : Bool → ℕ → List Sym → Token → Move
-atDeeper c zero K t = stop 7
+atDeeper c zero K t = stop tooDeep
 atDeeper c (suc r) K t = atValue c r K t
 
 -- in a list value the depth is tested "only when the next token is neither `]` nor Eof"
 unfoldable pub atItems : Bool → (depth start : ℕ) → List Sym → Token → Move
 atItems c r s K t =
     pick (eqb (t .kind) bracketR) (go (tokenEvent t ∷ closes nodes.listValue s (endOf t) ∷ []) K)
-    (pick (eqb (t .kind) eof) (stop 9) (atDeeper c r (items r s ∷ K) t))
+    (pick (eqb (t .kind) eof) (stop noSentence) (atDeeper c r (items r s ∷ K) t))
 
 unfoldable pub atFields : (depth start : ℕ) → List Sym → Token → Move
 atFields r s K t =
     pick (eqb (t .kind) braceR) (go (tokenEvent t ∷ closes nodes.objectValue s (endOf t) ∷ []) K)
     (pick (isName (t .kind)) (go (opens nodes.objectField (t .start) ∷ nameEvents t) (colonDue ∷ deeper r ∷ close nodes.objectField (t .start) ∷ fields r s ∷ K))
-    (stop 9))
+    (stop noSentence))
 
 unfoldable pub atName : List Sym → Token → Move
-atName K t = pick (isName (t .kind)) (go (nameEvents t) K) (stop 9)
+atName K t = pick (isName (t .kind)) (go (nameEvents t) K) (stop noSentence)
 
 unfoldable pub atColon : List Sym → Token → Move
-atColon K t = pick (eqb (t .kind) colon) (go (tokenEvent t ∷ []) K) (stop 9)
+atColon K t = pick (eqb (t .kind) colon) (go (tokenEvent t ∷ []) K) (stop noSentence)
 
 unfoldable pub atNamedType : List Sym → Token → Move
-atNamedType K t = pick (isName (t .kind)) (go (opens nodes.namedType (t .start) ∷ (nameEvents t ++ (closes nodes.namedType (t .start) (endOf t) ∷ []))) K) (stop 9)
+atNamedType K t = pick (isName (t .kind)) (go (opens nodes.namedType (t .start) ∷ (nameEvents t ++ (closes nodes.namedType (t .start) (endOf t) ∷ []))) K) (stop noSentence)
 
 -- the `{` of a selection set; else m
 unfoldable pub orSelectionSet : (depth : ℕ) → List Sym → Token → Move → Move
@@ -116,13 +117,13 @@ orSelection r K t m =
 
 -- "tested after `{` of a selection set .., before looking further"
 abbrev pub atFirstSelection : (depth start : ℕ) → List Sym → Token → Move
-atFirstSelection zero s K t = stop 7
-atFirstSelection (suc r) s K t = orSelection r (selections r s ∷ K) t (stop 9)
+atFirstSelection zero s K t = stop tooDeep
+atFirstSelection (suc r) s K t = orSelection r (selections r s ∷ K) t (stop noSentence)
 
 unfoldable pub atSelections : (depth start : ℕ) → List Sym → Token → Move
 atSelections r s K t =
     pick (eqb (t .kind) braceR) (go (tokenEvent t ∷ closes nodes.selectionSet s (endOf t) ∷ []) K)
-    (orSelection r (selections r s ∷ K) t (stop 9))
+    (orSelection r (selections r s ∷ K) t (stop noSentence))
 
 -- what may follow a field's name
 abbrev pub afterName : (depth start : ℕ) → List Sym → List Sym
@@ -139,7 +140,7 @@ orArgument r s K t m =
 unfoldable pub atArguments : (depth start : ℕ) → List Sym → Token → Move
 atArguments r s K t =
     pick (eqb (t .kind) parenR) (go (tokenEvent t ∷ closes nodes.arguments s (endOf t) ∷ []) K)
-    (orArgument r s K t (stop 9))
+    (orArgument r s K t (stop noSentence))
 
 -- a directive's `@`, the directives of which began at s, with the events es before it; else m
 unfoldable pub orDirective : List Item → (depth start : ℕ) → List Sym → Token → Move → Move
@@ -161,12 +162,12 @@ atSpread r d K t =
     (pick (eqb (t .kind) wordOn)
     (go (opens nodes.typeCondition (t .start) ∷ tokenEvent t ∷ []) (namedType ∷ close nodes.typeCondition (t .start) ∷ optDirectives r ∷ selectionSet r ∷ close nodes.inlineFragment (d .start) ∷ K))
     (orDirectives r (selectionSet r ∷ close nodes.inlineFragment (d .start) ∷ K) t
-    (orSelectionSet r (close nodes.inlineFragment (d .start) ∷ K) t (stop 9)))))
+    (orSelectionSet r (close nodes.inlineFragment (d .start) ∷ K) t (stop noSentence)))))
 
 -- one step: c says whether values are constant, l is the end of the token before t. What ends where something else begins hands the
 -- token on to what lies below
 unfoldable pub step : (c : Bool) → (l : ℕ) → List Sym → Token → Move
-step c l [] t = pick (eqb (t .kind) eof) (halt []) (stop 9)
+step c l [] t = pick (eqb (t .kind) eof) (halt []) (stop noSentence)
 step c l (value r ∷ K) t = atValue c r K t
 step c l (deeper r ∷ K) t = atDeeper c r K t
 step c l (items r s ∷ K) t = atItems c r s K t
@@ -174,7 +175,7 @@ step c l (fields r s ∷ K) t = atFields r s K t
 step c l (name ∷ K) t = atName K t
 step c l (colonDue ∷ K) t = atColon K t
 step c l (close n s ∷ K) t = also (closes n s l ∷ []) (step c l K t)
-step c l (selectionSet r ∷ K) t = orSelectionSet r K t (stop 9)
+step c l (selectionSet r ∷ K) t = orSelectionSet r K t (stop noSentence)
 step c l (optSelectionSet r ∷ K) t = orSelectionSet r K t (step c l K t)
 step c l (firstSelection r s ∷ K) t = atFirstSelection r s K t
 step c l (selections r s ∷ K) t = atSelections r s K t
@@ -189,7 +190,7 @@ step c l (named r n ∷ K) t =
     (also (closes nodes.field (n .start) l ∷ []) (step c l K t))))))
 step c l (spread r d ∷ K) t = atSpread r d K t
 step c l (optArguments r ∷ K) t = orArguments r K t (step c l K t)
-step c l (firstArgument r s ∷ K) t = orArgument r s K t (stop 9)
+step c l (firstArgument r s ∷ K) t = orArgument r s K t (stop noSentence)
 step c l (arguments r s ∷ K) t = atArguments r s K t
 step c l (optDirectives r ∷ K) t = orDirectives r K t (step c l K t)
 step c l (directives r s ∷ K) t = orDirective [] r s K t (also (closes nodes.directives s l ∷ []) (step c l K t))
@@ -214,7 +215,7 @@ moved (halt es) p k = accepted es
 
 -- over tokens of which the last is Eof, where the token before them ended at l
 unfoldable pub run : (c : Bool) → List Sym → (l : ℕ) → List Token → Read
-run c K l [] = refused 9 l
+run c K l [] = refused noSentence l
 run c K l (t ∷ ts) = moved (step c l K t) (t .start) (λ K′. run c K′ (endOf t) ts)
 
 -- what the entries read: a value, a constant value, a selection set

@@ -5,6 +5,7 @@ use mathlib.Core.List.{List, [], _∷_, _++_}
 use lib.Dec.{eqb}
 use Rattle.base.specs.Text.{pick}
 use Rattle.base.specs.Item.{Item}
+use Rattle.codes.specs.Refusals.{tooDeep, noSentence}
 use Rattle.codes.specs.EventCodes as nodes
 use Rattle.syntax.specs.Token.{eof, bang, bracketL, bracketR, isName, Token, endOf, tokenEvent, opens, closes, nameEvents}
 use Rattle.syntax.specs.Machine.{Read, refused, accepted}
@@ -24,32 +25,32 @@ withBang s es e (t ∷ ts) =
 -- the `]` of a list type whose `[` is b, after its item type
 unfoldable pub withBracket : Token → TypeRead → TypeRead
 withBracket b (untyped n p) = untyped n p
-withBracket b (typed es e []) = untyped 9 e
+withBracket b (typed es e []) = untyped noSentence e
 withBracket b (typed es e (t ∷ ts)) =
     pick (eqb (t .kind) bracketR)
     (withBang (b .start) (opens nodes.listType (b .start) ∷ tokenEvent b ∷ (es ++ (tokenEvent t ∷ closes nodes.listType (b .start) (endOf t) ∷ []))) (endOf t) ts)
-    (untyped 9 (t .start))
+    (untyped noSentence (t .start))
 
 -- 7 at the token after a `[`, "before looking further"
 abbrev pub noDepth : List Token → (end : ℕ) → TypeRead
-noDepth [] e = untyped 7 e
-noDepth (t ∷ ts) e = untyped 7 (t .start)
+noDepth [] e = untyped tooDeep e
+noDepth (t ∷ ts) e = untyped tooDeep (t .start)
 
 -- a type, with so much depth left
 unfoldable pub typeAt : (depth : ℕ) → List Token → TypeRead
-typeAt r [] = untyped 9 0
+typeAt r [] = untyped noSentence 0
 typeAt zero (t ∷ ts) =
     pick (isName (t .kind)) (withBang (t .start) (opens nodes.namedType (t .start) ∷ (nameEvents t ++ (closes nodes.namedType (t .start) (endOf t) ∷ []))) (endOf t) ts)
-    (pick (eqb (t .kind) bracketL) (noDepth ts (endOf t)) (untyped 9 (t .start)))
+    (pick (eqb (t .kind) bracketL) (noDepth ts (endOf t)) (untyped noSentence (t .start)))
 typeAt (suc r) (t ∷ ts) =
     pick (isName (t .kind)) (withBang (t .start) (opens nodes.namedType (t .start) ∷ (nameEvents t ++ (closes nodes.namedType (t .start) (endOf t) ∷ []))) (endOf t) ts)
-    (pick (eqb (t .kind) bracketL) (withBracket t (typeAt r ts)) (untyped 9 (t .start)))
+    (pick (eqb (t .kind) bracketL) (withBracket t (typeAt r ts)) (untyped noSentence (t .start)))
 
 -- a type fills the text: Eof follows
 unfoldable pub wholeType : TypeRead → Read
 wholeType (untyped n p) = refused n p
-wholeType (typed es e []) = refused 9 e
-wholeType (typed es e (t ∷ ts)) = pick (eqb (t .kind) eof) (accepted es) (refused 9 (t .start))
+wholeType (typed es e []) = refused noSentence e
+wholeType (typed es e (t ∷ ts)) = pick (eqb (t .kind) eof) (accepted es) (refused noSentence (t .start))
 
 abbrev pub readType : (depth : ℕ) → List Token → Read
 readType d ts = wholeType (typeAt d ts)

@@ -7,6 +7,7 @@ use lib.Dec.{eqb}
 use lib.ListN.{length, getD}
 use Rattle.base.specs.Text.{pick}
 use Rattle.base.specs.Item.{Item}
+use Rattle.codes.specs.Refusals.{noSentence}
 use Rattle.codes.specs.EventCodes as nodes
 use Rattle.rules.specs.Items.{items}
 use Rattle.syntax.specs.Token.{bang, bracketL, bracketR, isName, Token, endOf, tokenEvent, opens, closes, nameEvents}
@@ -19,21 +20,21 @@ use Rattle.parser.specs.Events.{Puts}
 -- the `]` of a list type whose `[` is b, after its item type; what follows is left
 unfoldable pub listed : Token → TypeRead → TypeRead
 listed b (untyped n p) = untyped n p
-listed b (typed es e []) = untyped 9 e
+listed b (typed es e []) = untyped noSentence e
 listed b (typed es e (t ∷ ts)) =
     pick (eqb (t .kind) bracketR)
     (typed (opens nodes.listType (b .start) ∷ tokenEvent b ∷ (es ++ (tokenEvent t ∷ closes nodes.listType (b .start) (endOf t) ∷ []))) (endOf t) ts)
-    (untyped 9 (t .start))
+    (untyped noSentence (t .start))
 
 -- a type but for its `!`, with so much depth left
 unfoldable pub baseAt : (depth : ℕ) → List Token → TypeRead
-baseAt r [] = untyped 9 0
+baseAt r [] = untyped noSentence 0
 baseAt zero (t ∷ ts) =
     pick (isName (t .kind)) (typed (opens nodes.namedType (t .start) ∷ (nameEvents t ++ (closes nodes.namedType (t .start) (endOf t) ∷ []))) (endOf t) ts)
-    (pick (eqb (t .kind) bracketL) (noDepth ts (endOf t)) (untyped 9 (t .start)))
+    (pick (eqb (t .kind) bracketL) (noDepth ts (endOf t)) (untyped noSentence (t .start)))
 baseAt (suc r) (t ∷ ts) =
     pick (isName (t .kind)) (typed (opens nodes.namedType (t .start) ∷ (nameEvents t ++ (closes nodes.namedType (t .start) (endOf t) ∷ []))) (endOf t) ts)
-    (pick (eqb (t .kind) bracketL) (listed t (typeAt r ts)) (untyped 9 (t .start)))
+    (pick (eqb (t .kind) bracketL) (listed t (typeAt r ts)) (untyped noSentence (t .start)))
 
 -- the kind of the first token
 abbrev pub kindFirst : List Token → ℕ
@@ -70,7 +71,7 @@ pub data Walked (t : List ℕ) (x : TypeRead) (before after : Type 0) (tape : Li
 pub data Closed (t : List ℕ) (start at : ℕ) (tape : List ℕ) (out : ℕ) (tape′ : List ℕ) : Step → Type 0 where
   closed : {next out′ : ℕ} (u : Token) → rest t at ≡ u ∷ rest t next → eqb (u .kind) bracketR ≡ true → next < length (items t)
       → Puts tape out tape′ out′ (tokenEvent u ∷ closes nodes.listType start (endOf u) ∷ []) → Closed t start at tape out tape′ (Done next (endOf u) out′)
-  unclosed : (u : Token) (us : List Token) → rest t at ≡ u ∷ us → eqb (u .kind) bracketR ≡ false → tape′ ≡ tape → Closed t start at tape out tape′ (Stop 9 (u .start))
+  unclosed : (u : Token) (us : List Token) → rest t at ≡ u ∷ us → eqb (u .kind) bracketR ≡ false → tape′ ≡ tape → Closed t start at tape out tape′ (Stop noSentence (u .start))
 
 -- a type that began at `start` ended at `end`, before item number `at`: a `!` there is the last token of a non-null type; else it is done
 pub data Ended (t : List ℕ) (start at end : ℕ) (tape : List ℕ) (out : ℕ) (tape′ : List ℕ) : Step → Type 0 where

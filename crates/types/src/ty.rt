@@ -11,7 +11,7 @@ ghost use Prim.Native.Nat.{ℕ, _^_, _≤_, _<_};
 ghost use lib.Dec.{eqb};
 ghost use lib.ListN.{length, getD};
 ghost use Rattle.base.specs.Text.{pick};
-ghost use Rattle.codes.specs.Bounds.{deepest};
+ghost use Rattle.codes.specs.Refusals.{tooDeep, deepest};
 ghost use Rattle.codes.specs.EventCodes as nodes;
 ghost use Rattle.rules.specs.Items.{items as itemsOf};
 ghost use Rattle.syntax.specs.Token.{bang, opens};
@@ -126,7 +126,7 @@ fn end_type(
 
 // No depth is left for the type that begins at the token, whatever it is.
 fn too_deep(token: Peeked) -> Step
-    ensures { λ r. ⌜ r ≡ Step.Stop 7 (token .start) ⌝ }
+    ensures { λ r. ⌜ r ≡ Step.Stop tooDeep (token .start) ⌝ }
 {
     Step::Stop {
         number: refusal::TOO_DEEP,
