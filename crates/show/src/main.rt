@@ -136,30 +136,27 @@ fn takes_large(entry: u8) -> bool {
     entry == b'5'
 }
 
-// A text that did not fit the small buffers: its start is lent, and the rest is still to be read.
-fn read_large(
+// Answers on the text's first n bytes, which are all of it, or complains that it cannot be read. Says whether one of these was so.
+fn answer_whole(
     asked: Asked,
-    head: &[u8],
-    text: &mut [u8],
+    text: &[u8],
+    n: usize,
     items: &mut [u8],
     events: &mut [u8],
     out: &mut [u8; 65536],
-) {
-    input::copy(head, text);
-    let n = input::read_text(text, head.len());
+) -> bool {
     if n == input::FAILED {
         complain(asked, b"paumelu: the text cannot be read\n");
-        return;
+        return true;
     }
     if n < text.len() {
         answer(asked, paumelu::part(text, 0, n), items, events, out);
-        return;
+        return true;
     }
-    // the text is longer than the buffer, or as long: the reader refuses it with 2
-    if asked.entry == b'0' {
-        answer(asked, text, items, events, out);
-        return;
-    }
+    false
+}
+
+fn complain_of_length(asked: Asked) {
     if asked.entry == b'5' {
         complain(
             asked,
@@ -171,6 +168,28 @@ fn read_large(
         asked,
         b"paumelu: only items and part take a text of over 1,048,576 bytes\n",
     );
+}
+
+// A text that did not fit the small buffers: its start is lent, and the rest is still to be read.
+fn read_large(
+    asked: Asked,
+    head: &[u8],
+    text: &mut [u8],
+    items: &mut [u8],
+    events: &mut [u8],
+    out: &mut [u8; 65536],
+) {
+    input::copy(head, text);
+    let n = input::read_text(text, head.len());
+    if answer_whole(asked, text, n, items, events, out) {
+        return;
+    }
+    // the text is longer than the buffer, or as long: the reader refuses it with 2
+    if asked.entry == b'0' {
+        answer(asked, text, items, events, out);
+        return;
+    }
+    complain_of_length(asked);
 }
 
 fn lend_items(
@@ -247,12 +266,7 @@ fn read_small(
     out: &mut [u8; 65536],
 ) {
     let n = input::read_text(text, 0);
-    if n == input::FAILED {
-        complain(asked, b"paumelu: the text cannot be read\n");
-        return;
-    }
-    if n < text.len() {
-        answer(asked, paumelu::part(text, 0, n), items, events, out);
+    if answer_whole(asked, text, n, items, events, out) {
         return;
     }
     if !lacks_room(asked) {
