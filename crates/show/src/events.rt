@@ -1,20 +1,22 @@
 // The list of a text's events: what the grammar finds, indented by nesting.
 use crate::asked::Asked;
 use crate::list::colour_of;
-use crate::list::entry_at;
 use crate::list::put_covered;
 use crate::list::put_span;
 use crate::list::put_word;
-use crate::names::put_event;
-use crate::output::digits;
-use crate::output::less;
-use crate::output::put;
-use crate::output::put_colour;
-use crate::output::put_number;
-use crate::output::put_times;
-use crate::output::sum;
+use codes::node;
 use paumelu::Answer;
+use print::digits;
+use print::entry_at;
+use print::less;
+use print::put;
+use print::put_colour;
+use print::put_event;
+use print::put_number;
+use print::put_times;
+use print::sum;
 use tape::Entry;
+ghost use Rattle.print.specs.Place.{Place};
 
 // The output's place, and how many nodes are open.
 pub struct Nest {
@@ -38,27 +40,20 @@ pub fn read(asked: Asked, text: &[u8], items: &mut [u8], events: &mut [u8]) -> A
     paumelu::read_selection_set(text, limit, depth, items, events)
 }
 
-// The error of the first error item among the tape's first `count`; 0 where none is one.
-pub fn first_error(tape: &[u8], count: usize) -> u8 {
-    let mut i = 0;
-    while i < count {
-        let e = entry_at(tape, i);
-        let code = e.code;
-        if code >= 64 {
-            return code - 64;
-        }
-        i += 1;
-    }
-    0
-}
-
 // The colour of an event: nodes have that of names.
 fn event_colour(code: u8) -> usize {
-    if code < 128 { 1 } else { colour_of(code - 128) }
+    if code < node::TOKEN {
+        1
+    } else {
+        colour_of(code - node::TOKEN)
+    }
 }
 
 // The numbers stand in columns as far as some twelve nodes are open.
-fn put_described(out: &mut [u8; 65536], at: usize, colour: bool, open: usize, e: Entry) -> usize {
+fn put_described(out: &mut [u8; 65536], at: usize, colour: bool, open: usize, e: Entry) -> usize
+    requires { ⌜ Place at ⌝ }
+    ensures { λ r. ⌜ Place r ⌝ }
+{
     let indent = sum(open, open);
     let to = put_times(out, at, b' ', indent);
     let to = put_colour(out, to, colour, event_colour(e.code));
@@ -75,7 +70,10 @@ fn put_row(
     open: usize,
     text: &[u8],
     e: Entry,
-) -> usize {
+) -> usize
+    requires { ⌜ Place at ⌝ }
+    ensures { λ r. ⌜ Place r ⌝ }
+{
     let width = digits(sum(text.len(), 1));
     let to = put_number(out, at, index, sum(width, 1));
     let to = put_times(out, to, b' ', 2);
@@ -87,23 +85,19 @@ fn put_row(
 
 // How many nodes are open after an event.
 fn opened(open: usize, code: u8) -> usize {
-    if code < 64 {
+    if code < node::CLOSES {
         return sum(open, 1);
     }
-    if code < 128 {
+    if code < node::TOKEN {
         return less(open, 1);
     }
     open
 }
 
-fn row(
-    asked: Asked,
-    index: usize,
-    text: &[u8],
-    e: Entry,
-    nest: Nest,
-    out: &mut [u8; 65536],
-) -> Nest {
+fn row(asked: Asked, index: usize, text: &[u8], e: Entry, nest: Nest, out: &mut [u8; 65536]) -> Nest
+    requires { ⌜ Place (nest .at) ⌝ }
+    ensures { λ r. ⌜ Place (r .at) ⌝ }
+{
     let code = e.code;
     let open = opened(nest.open, code);
     if asked.words {

@@ -1,22 +1,27 @@
 // The list of a text's items. A text may have more items than the tape has room for: then the tape is filled again from the first unread byte on,
 // where the items are those of the rest of the text, read alone and moved (`suffix` in crates/rules/proofs/Tiling.antt).
 use crate::asked::Asked;
-use crate::characters::put_shown;
-use crate::lines::Spot;
-use crate::lines::forward;
-use crate::lines::put_caret;
-use crate::names::put_kind;
-use crate::output::digits;
-use crate::output::less;
-use crate::output::put;
-use crate::output::put_colour;
-use crate::output::put_hex2;
-use crate::output::put_hex7;
-use crate::output::put_number;
-use crate::output::put_times;
-use crate::output::sum;
-use crate::report::put_error_item;
+use codes::item;
+use codes::refusal;
+use print::Spot;
+use print::digits;
+use print::entry_at;
+use print::forward;
+use print::less;
+use print::put;
+use print::put_caret;
+use print::put_colour;
+use print::put_error_item;
+use print::put_hex2;
+use print::put_hex7;
+use print::put_kind;
+use print::put_number;
+use print::put_shown;
+use print::put_times;
+use print::sum;
 use tape::Entry;
+ghost use mathlib.Core.Path.{_≡_};
+ghost use Rattle.print.specs.Place.{Place};
 
 // What a pass over the items carries along: the output's place, how many error items there were, and the place in the text.
 pub struct Walk {
@@ -35,7 +40,9 @@ pub struct Pass {
 
 impl Pass {
     // A pass that is to begin, at a place of the output.
-    pub fn new(at: usize) -> Self {
+    pub fn new(at: usize) -> Self
+        ensures { λ r. ⌜ r .walk .at ≡ at ⌝ }
+    {
         let walk = Walk {
             at,
             errors: 0,
@@ -43,22 +50,10 @@ impl Pass {
         };
         Pass {
             walk,
-            number: 0,
+            number: refusal::DONE,
             place: 0,
             given: 0,
         }
-    }
-}
-
-// Entry number i of a tape; Eof at 0 where the tape has none.
-pub fn entry_at(tape: &[u8], i: usize) -> Entry {
-    if i < tape::capacity(tape) {
-        return tape::get_entry(tape, i);
-    }
-    Entry {
-        code: 0,
-        start: 0,
-        size: 0,
     }
 }
 
@@ -71,7 +66,10 @@ fn moved(e: Entry, offset: usize) -> Entry {
 }
 
 // A tape's word, as document 01 writes it.
-pub fn put_word(out: &mut [u8; 65536], at: usize, e: Entry) -> usize {
+pub fn put_word(out: &mut [u8; 65536], at: usize, e: Entry) -> usize
+    requires { ⌜ Place at ⌝ }
+    ensures { λ r. ⌜ Place r ⌝ }
+{
     let to = put_hex2(out, at, e.code as usize);
     let to = put_hex7(out, to, e.start);
     let to = put_hex7(out, to, e.size);
@@ -80,20 +78,23 @@ pub fn put_word(out: &mut [u8; 65536], at: usize, e: Entry) -> usize {
 
 // The colour of an item's kind.
 pub fn colour_of(code: u8) -> usize {
-    if code >= 64 {
+    if code >= item::ERROR {
         return 5;
     }
     match code {
-        0..=2 => 0,
-        18 => 1,
-        19 => 2,
-        20 | 21 => 3,
+        item::EOF..=item::COMMENT => 0,
+        item::NAME => 1,
+        item::STRING_VALUE => 2,
+        item::INT | item::FLOAT => 3,
         _ => 4,
     }
 }
 
 // Start and end.
-pub fn put_span(out: &mut [u8; 65536], at: usize, width: usize, start: usize, end: usize) -> usize {
+pub fn put_span(out: &mut [u8; 65536], at: usize, width: usize, start: usize, end: usize) -> usize
+    requires { ⌜ Place at ⌝ }
+    ensures { λ r. ⌜ Place r ⌝ }
+{
     let to = put(out, at, b' ');
     let to = put_number(out, to, start, width);
     let to = put_times(out, to, b' ', 2);
@@ -101,12 +102,15 @@ pub fn put_span(out: &mut [u8; 65536], at: usize, width: usize, start: usize, en
 }
 
 // What the entry covers, if anything, shortened.
-pub fn put_covered(out: &mut [u8; 65536], at: usize, text: &[u8], e: Entry) -> usize {
+pub fn put_covered(out: &mut [u8; 65536], at: usize, text: &[u8], e: Entry) -> usize
+    requires { ⌜ Place at ⌝ }
+    ensures { λ r. ⌜ Place r ⌝ }
+{
     if e.size == 0 {
         return at;
     }
     let to = put_times(out, at, b' ', 2);
-    put_shown(out, to, paumelu::part(text, e.start, e.size), 40)
+    put_shown(out, to, false, paumelu::part(text, e.start, e.size), 40)
 }
 
 fn put_item(
@@ -117,7 +121,10 @@ fn put_item(
     index: usize,
     text: &[u8],
     e: Entry,
-) -> usize {
+) -> usize
+    requires { ⌜ Place at ⌝ }
+    ensures { λ r. ⌜ Place r ⌝ }
+{
     let to = put_number(out, at, index, width);
     let to = put_times(out, to, b' ', 2);
     let to = put_colour(out, to, colour, colour_of(e.code));
@@ -128,14 +135,17 @@ fn put_item(
     put(out, to, b'\n')
 }
 
-fn error_row(asked: Asked, text: &[u8], e: Entry, walk: Walk, out: &mut [u8; 65536]) -> Walk {
+fn error_row(asked: Asked, text: &[u8], e: Entry, walk: Walk, out: &mut [u8; 65536]) -> Walk
+    requires { ⌜ Place (walk .at) ⌝ }
+    ensures { λ r. ⌜ Place (r .at) ⌝ }
+{
     let code = e.code;
-    if code < 64 {
+    if code < item::ERROR {
         return walk;
     }
     let spot = forward(text, walk.spot, e.start);
     let end = sum(e.start, e.size);
-    let at = put_error_item(out, walk.at, asked.colour, code - 64, spot, end);
+    let at = put_error_item(out, walk.at, asked.colour, code - item::ERROR, spot, end);
     let at = put(out, at, b'\n');
     let at = put_caret(out, at, text, spot);
     Walk {
@@ -145,16 +155,24 @@ fn error_row(asked: Asked, text: &[u8], e: Entry, walk: Walk, out: &mut [u8; 655
     }
 }
 
+// The row of an item; or that of an error item only.
 fn row(
     asked: Asked,
+    errors_only: bool,
     width: usize,
     index: usize,
     text: &[u8],
     e: Entry,
     walk: Walk,
     out: &mut [u8; 65536],
-) -> Walk {
-    let errors = if e.code < 64 {
+) -> Walk
+    requires { ⌜ Place (walk .at) ⌝ }
+    ensures { λ r. ⌜ Place (r .at) ⌝ }
+{
+    if errors_only {
+        return error_row(asked, text, e, walk, out);
+    }
+    let errors = if e.code < item::ERROR {
         walk.errors
     } else {
         sum(walk.errors, 1)
@@ -185,17 +203,17 @@ fn rows(
     given: usize,
     start: Walk,
     out: &mut [u8; 65536],
-) -> Walk {
+) -> Walk
+    requires { ⌜ Place (start .at) ⌝ }
+    ensures { λ r. ⌜ Place (r .at) ⌝ }
+{
     let width = digits(sum(text.len(), 1));
     let mut walk = start;
     let mut i = 0;
     while i < count {
         let e = moved(entry_at(tape, i), offset);
-        if errors_only {
-            walk = error_row(asked, text, e, walk, out);
-        } else {
-            walk = row(asked, width, sum(given, i + 1), text, e, walk, out);
-        }
+        let index = sum(given, i + 1);
+        walk = row(asked, errors_only, width, index, text, e, walk, out);
         i += 1;
     }
     walk
@@ -207,7 +225,7 @@ fn rest(text: &[u8], offset: usize) -> &[u8] {
 
 // Does a pass end after a tape? It does unless the tape was full, or where the output cannot be written.
 fn is_last(pass: Pass) -> bool {
-    if pass.number != 5 {
+    if pass.number != refusal::ITEM_TAPE_FULL {
         return true;
     }
     let walk = pass.walk;
@@ -222,7 +240,10 @@ fn portion(
     tape: &mut [u8],
     from: Pass,
     out: &mut [u8; 65536],
-) -> Pass {
+) -> Pass
+    requires { ⌜ Place (from .walk .at) ⌝ }
+    ensures { λ r. ⌜ Place (r .walk .at) ⌝ }
+{
     let offset = from.place;
     let given = from.given;
     let a = paumelu::read_items(rest(text, offset), less(asked.limit, given), tape);
@@ -253,7 +274,10 @@ pub fn go_through(
     tape: &mut [u8],
     start: Pass,
     out: &mut [u8; 65536],
-) -> Pass {
+) -> Pass
+    requires { ⌜ Place (start .walk .at) ⌝ }
+    ensures { λ r. ⌜ Place (r .walk .at) ⌝ }
+{
     let mut pass = start;
     let mut turns = sum(text.len(), 1);
     while turns > 0 {

@@ -3,21 +3,17 @@
 // The script needs to know how the run ended, and a program has no exit status: so the last thing that it writes is a digit on descriptor 3, where it
 // is told to. 0: all was read; 1: there was a refusal or an error item; 2: the text was not read; 3: a part whose span passes the text's end.
 mod asked;
-mod characters;
 mod events;
 mod input;
-mod lines;
 mod list;
-mod names;
-mod output;
-mod page;
-mod report;
 
 use asked::Asked;
+use codes::refusal;
 use libc::STDERR_FILENO;
 use libc::STDOUT_FILENO;
 use list::Pass;
 use list::Walk;
+ghost use Rattle.print.specs.Place.{Place};
 
 fn tell(asked: Asked, status: u8) {
     if asked.tells {
@@ -33,7 +29,7 @@ fn complain(asked: Asked, line: &[u8]) {
 
 // Writes what is left in the buffer, and tells how the run ended.
 fn finish(asked: Asked, refused: bool, at: usize, out: &mut [u8; 65536]) {
-    if !output::flush(out, at) {
+    if !print::flush(out, at) {
         complain(asked, b"paumelu: the output cannot be written\n");
         return;
     }
@@ -51,11 +47,14 @@ fn list_errors(
     tape: &mut [u8],
     listed: Walk,
     out: &mut [u8; 65536],
-) -> usize {
+) -> usize
+    requires { ⌜ Place (listed .at) ⌝ }
+    ensures { λ r. ⌜ Place r ⌝ }
+{
     if listed.errors == 0 {
         return listed.at;
     }
-    let at = output::put(out, listed.at, b'\n');
+    let at = print::put(out, listed.at, b'\n');
     let pass = list::go_through(asked, true, text, tape, Pass::new(at), out);
     let walk = pass.walk;
     walk.at
@@ -65,12 +64,12 @@ fn list_items(asked: Asked, text: &[u8], tape: &mut [u8], out: &mut [u8; 65536])
     let pass = list::go_through(asked, false, text, tape, Pass::new(0), out);
     let walk = pass.walk;
     let at = list_errors(asked, text, tape, walk, out);
-    if pass.number == 0 {
+    if pass.number == refusal::DONE {
         finish(asked, walk.errors != 0, at, out);
         return;
     }
-    let at = output::put_if(out, at, pass.given != 0, b'\n');
-    let at = report::put_report(out, at, asked.colour, text, pass.number, pass.place, 0);
+    let at = print::put_if(out, at, pass.given != 0, b'\n');
+    let at = print::put_report(out, at, asked.colour, text, pass.number, pass.place, 0);
     finish(asked, true, at, out);
 }
 
@@ -82,13 +81,13 @@ fn list_events(
     out: &mut [u8; 65536],
 ) {
     let a = events::read(asked, text, items, tape);
-    if a.number == 0 {
+    if a.number == refusal::DONE {
         let at = events::rows(asked, text, tape, a.events, out);
         finish(asked, false, at, out);
         return;
     }
-    let error = events::first_error(items, a.items);
-    let at = report::put_report(out, 0, asked.colour, text, a.number, a.place, error);
+    let error = print::first_error(items, a.items);
+    let at = print::put_report(out, 0, asked.colour, text, a.number, a.place, error);
     finish(asked, true, at, out);
 }
 
@@ -137,30 +136,27 @@ fn takes_large(entry: u8) -> bool {
     entry == b'5'
 }
 
-// A text that did not fit the small buffers: its start is lent, and the rest is still to be read.
-fn read_large(
+// Answers on the text's first n bytes, which are all of it, or complains that it cannot be read. Says whether one of these was so.
+fn answer_whole(
     asked: Asked,
-    head: &[u8],
-    text: &mut [u8],
+    text: &[u8],
+    n: usize,
     items: &mut [u8],
     events: &mut [u8],
     out: &mut [u8; 65536],
-) {
-    input::copy(head, text);
-    let n = input::read_text(text, head.len());
+) -> bool {
     if n == input::FAILED {
         complain(asked, b"paumelu: the text cannot be read\n");
-        return;
+        return true;
     }
     if n < text.len() {
         answer(asked, paumelu::part(text, 0, n), items, events, out);
-        return;
+        return true;
     }
-    // the text is longer than the buffer, or as long: the reader refuses it with 2
-    if asked.entry == b'0' {
-        answer(asked, text, items, events, out);
-        return;
-    }
+    false
+}
+
+fn complain_of_length(asked: Asked) {
     if asked.entry == b'5' {
         complain(
             asked,
@@ -174,10 +170,32 @@ fn read_large(
     );
 }
 
+// A text that did not fit the small buffers: its start is lent, and the rest is still to be read.
+fn read_large(
+    asked: Asked,
+    head: &[u8],
+    text: &mut [u8],
+    items: &mut [u8],
+    events: &mut [u8],
+    out: &mut [u8; 65536],
+) {
+    input::copy(head, text);
+    let n = input::read_text(text, head.len());
+    if answer_whole(asked, text, n, items, events, out) {
+        return;
+    }
+    // the text is longer than the buffer, or as long: the reader refuses it with 2
+    if asked.entry == b'0' {
+        answer(asked, text, items, events, out);
+        return;
+    }
+    complain_of_length(asked);
+}
+
 fn lend_items(
     asked: Asked,
     head: &[u8],
-    text: &mut [u8; 16777217],
+    text: &mut [u8; refusal::LONGEST + 1],
     items: &mut [u8; 8388608],
     out: &mut [u8; 65536],
 ) {
@@ -187,7 +205,7 @@ fn lend_items(
 
 // Texts of up to 16,777,216 bytes.
 fn go_items(asked: Asked, head: &[u8], out: &mut [u8; 65536]) {
-    let mut text = [0u8; 16777217];
+    let mut text = [0u8; refusal::LONGEST + 1];
     let mut items = [0u8; 8388608];
     lend_items(asked, head, &mut text, &mut items, out);
 }
@@ -248,12 +266,7 @@ fn read_small(
     out: &mut [u8; 65536],
 ) {
     let n = input::read_text(text, 0);
-    if n == input::FAILED {
-        complain(asked, b"paumelu: the text cannot be read\n");
-        return;
-    }
-    if n < text.len() {
-        answer(asked, paumelu::part(text, 0, n), items, events, out);
+    if answer_whole(asked, text, n, items, events, out) {
         return;
     }
     if !lacks_room(asked) {

@@ -1,11 +1,12 @@
 -- `show::events::rows` is safe and ends. Assumes nothing.
 use Prim.Native.Nat.{_≤_, _-_}
 use borrow.Author.Needs.{needs}
+use Rattle.print.specs.Place.{Place}
 use Rattle.show.proofs.events.rows.Statement.{statement}
 use Rattle.show.proofs.events.rows.Tie as tie
 
 abbrev Inv-loop : tie.InvT-loop
-Inv-loop asked text events count out₀ nest₀ i₀ out nest i = i ≤ count
+Inv-loop asked text events count out₀ nest₀ i₀ out nest i = (i ≤ count) × Place (nest .at)
 
 abbrev μ-loop : tie.MeasureT-loop
 μ-loop asked text events count out₀ nest₀ i₀ out nest i = count - i

@@ -2,11 +2,12 @@
 use mathlib.Core.Path.{_≡_}
 use borrow.Author.Needs.{needs}
 use lib.ListN.{length}
+use Rattle.print.specs.Place.{Place}
 use Rattle.show.proofs.list.go_through.Statement.{statement}
 use Rattle.show.proofs.list.go_through.Tie as tie
 
 abbrev Inv-loop : tie.InvT-loop
-Inv-loop asked errors-only text tape₀ out₀ pass₀ turns₀ tape out pass turns = length tape ≡ length tape₀
+Inv-loop asked errors-only text tape₀ out₀ pass₀ turns₀ tape out pass turns = (length tape ≡ length tape₀) × Place (pass .walk .at)
 
 abbrev μ-loop : tie.MeasureT-loop
 μ-loop asked errors-only text tape₀ out₀ pass₀ turns₀ tape out pass turns = turns

@@ -1,11 +1,12 @@
 -- `show::list::rows` is safe and ends. Assumes nothing.
 use Prim.Native.Nat.{_≤_, _-_}
 use borrow.Author.Needs.{needs}
+use Rattle.print.specs.Place.{Place}
 use Rattle.show.proofs.list.rows.Statement.{statement}
 use Rattle.show.proofs.list.rows.Tie as tie
 
 abbrev Inv-loop : tie.InvT-loop
-Inv-loop asked errors-only text tape count offset given out₀ width walk₀ i₀ out walk i = i ≤ count
+Inv-loop asked errors-only text tape count offset given out₀ width walk₀ i₀ out walk i = (i ≤ count) × Place (walk .at)
 
 abbrev μ-loop : tie.MeasureT-loop
 μ-loop asked errors-only text tape count offset given out₀ width walk₀ i₀ out walk i = count - i
@@ -24,9 +25,6 @@ entry-at-requires c κs = search needs
 
 moved-requires : tie.Need-moved-requires Inv-loop μ-loop
 moved-requires c κs = search needs
-
-error-row-requires : tie.Need-error-row-requires Inv-loop μ-loop
-error-row-requires c κs = search needs
 
 add-sum : tie.Need-add-sum Inv-loop μ-loop
 add-sum c = search needs
@@ -60,7 +58,6 @@ rows-spec =
     loop-holds
     entry-at-requires
     moved-requires
-    error-row-requires
     add-sum
     sum-requires-2
     row-requires

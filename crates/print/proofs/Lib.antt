@@ -1,0 +1,3 @@
+-- Laws of what printing tells.
+pub mod Decoded
+pub mod Errors

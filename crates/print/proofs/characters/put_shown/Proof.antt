@@ -1,0 +1,60 @@
+-- `print::characters::put_shown` is safe and ends. Assumes nothing.
+use Prim.Native.Nat.{_≤_, _-_}
+use borrow.Author.Needs.{needs}
+use lib.ListN.{length}
+use Rattle.print.specs.Place.{Place}
+use Rattle.print.proofs.characters.put_shown.Statement.{statement}
+use Rattle.print.proofs.characters.put_shown.Tie as tie
+
+abbrev Inv-loop : tie.InvT-loop
+Inv-loop out₀ at page s most to₀ i₀ n₀ out to i n = (n ≤ most) × ((i ≤ length s) × Place to)
+
+abbrev μ-loop : tie.MeasureT-loop
+μ-loop out₀ at page s most to₀ i₀ n₀ out to i n = length s - i
+
+loop-holds : tie.Need-loop-holds Inv-loop μ-loop
+loop-holds c = search needs
+
+put-more-requires : tie.Need-put-more-requires Inv-loop μ-loop
+put-more-requires c κs = search needs
+
+returns : tie.Need-returns Inv-loop μ-loop
+returns c = search needs
+
+character-at-requires : tie.Need-character-at-requires Inv-loop μ-loop
+character-at-requires c κs = search needs
+
+put-either-requires : tie.Need-put-either-requires Inv-loop μ-loop
+put-either-requires c κs = search needs
+
+past-requires : tie.Need-past-requires Inv-loop μ-loop
+past-requires c κs = search needs
+
+add-n : tie.Need-add-n Inv-loop μ-loop
+add-n c = search needs
+
+loop-less : tie.Need-loop-less Inv-loop μ-loop
+loop-less c = search needs
+
+loop-again : tie.Need-loop-again Inv-loop μ-loop
+loop-again c = search needs
+
+returns-2 : tie.Need-returns-2 Inv-loop μ-loop
+returns-2 c = search needs
+
+pub put-shown-spec : {M : Type 1} → statement M
+put-shown-spec =
+    tie.close
+    (tie.spec
+    Inv-loop
+    μ-loop
+    loop-holds
+    put-more-requires
+    returns
+    character-at-requires
+    put-either-requires
+    past-requires
+    add-n
+    loop-less
+    loop-again
+    returns-2)

@@ -1,0 +1,17 @@
+-- The entries of a tape, as far as it has any. Assumes nothing: these are definitions.
+use Prim.Native.Nat.{ℕ, zero, suc, _-_}
+use mathlib.Core.List.{List}
+use lib.Dec.{leb, ltb}
+use Rattle.base.specs.Text.{pick}
+use Rattle.base.specs.Item.{Item, item}
+use Rattle.tape.specs.Entry.{room, entryOf}
+
+-- entry number i of a tape; Eof at 0 where the tape has none
+unfoldable pub entryAt : List ℕ → ℕ → Item
+entryAt tape i = pick (ltb i (room tape)) (entryOf tape i) (item 0 0 0)
+
+-- the error of the first error item among `count` entries from entry i on; 0 where none is one
+unfoldable pub firstError : List ℕ → (i count : ℕ) → ℕ
+firstError tape i zero = 0
+firstError tape i (suc n) =
+    pick (leb 64 (entryAt tape i .code)) (entryAt tape i .code - 64) (firstError tape (suc i) n)

@@ -1,0 +1,34 @@
+// What the program prints, and how: the output's buffer, characters, lines and columns, names and words, reports; and the entries that they tell of.
+mod characters;
+mod entries;
+mod lines;
+mod names;
+mod output;
+mod report;
+
+pub use characters::put_shown;
+pub use entries::entry_at;
+pub use entries::first_error;
+pub use lines::Spot;
+pub use lines::forward;
+pub use lines::put_caret;
+pub use names::put_error;
+pub use names::put_event;
+pub use names::put_kind;
+pub use names::put_kind_name;
+pub use output::digits;
+pub use output::flush;
+pub use output::less;
+pub use output::put;
+pub use output::put_all;
+pub use output::put_colour;
+pub use output::put_form;
+pub use output::put_hex2;
+pub use output::put_hex7;
+pub use output::put_if;
+pub use output::put_number;
+pub use output::put_times;
+pub use output::sum;
+pub use report::put_error_item;
+pub use report::put_refused;
+pub use report::put_report;
