@@ -3,17 +3,14 @@
 // The script needs to know how the run ended, and a program has no exit status: so the last thing that it writes is a digit on descriptor 3, where it
 // is told to. 0: all was read; 1: there was a refusal or an error item; 2: the text was not read; 3: a part whose span passes the text's end.
 mod asked;
-mod events;
 mod input;
-mod list;
 
 use asked::Asked;
 use codes::refusal;
 use libc::STDERR_FILENO;
 use libc::STDOUT_FILENO;
-use list::Pass;
-use list::Walk;
-ghost use Rattle.print.specs.Place.{Place};
+use lists::Style;
+use paumelu::Answer;
 
 fn tell(asked: Asked, status: u8) {
     if asked.tells {
@@ -40,60 +37,49 @@ fn finish(asked: Asked, refused: bool, at: usize, out: &mut [u8; 65536]) {
     tell(asked, b'0');
 }
 
-// After the list come the error items with their lines, and then a refusal.
-fn list_errors(
-    asked: Asked,
-    text: &[u8],
-    tape: &mut [u8],
-    listed: Walk,
-    out: &mut [u8; 65536],
-) -> usize
-    requires { ⌜ Place (listed .at) ⌝ }
-    ensures { λ r. ⌜ Place r ⌝ }
-{
-    if listed.errors == 0 {
-        return listed.at;
+// Reads the text by one of the grammar's entries; by that of a selection set where the entry is none of the others.
+fn read(asked: Asked, text: &[u8], items: &mut [u8], events: &mut [u8]) -> Answer {
+    let limit = asked.limit;
+    let depth = asked.depth;
+    if asked.entry == b'1' {
+        return paumelu::read_value(text, limit, depth, items, events);
     }
-    let at = print::put(out, listed.at, b'\n');
-    let pass = list::go_through(asked, true, text, tape, Pass::new(at), out);
-    let walk = pass.walk;
-    walk.at
+    if asked.entry == b'2' {
+        return paumelu::read_constant(text, limit, depth, items, events);
+    }
+    if asked.entry == b'3' {
+        return paumelu::read_type(text, limit, depth, items, events);
+    }
+    paumelu::read_selection_set(text, limit, depth, items, events)
+}
+
+fn style_of(asked: Asked) -> Style {
+    Style {
+        words: asked.words,
+        colour: asked.colour,
+    }
 }
 
 fn list_items(asked: Asked, text: &[u8], tape: &mut [u8], out: &mut [u8; 65536]) {
-    let pass = list::go_through(asked, false, text, tape, Pass::new(0), out);
-    let walk = pass.walk;
-    let at = list_errors(asked, text, tape, walk, out);
-    if pass.number == refusal::DONE {
-        finish(asked, walk.errors != 0, at, out);
-        return;
-    }
-    let at = print::put_if(out, at, pass.given != 0, b'\n');
-    let at = print::put_report(out, at, asked.colour, text, pass.number, pass.place, 0);
-    finish(asked, true, at, out);
+    let listed = lists::list_items(style_of(asked), asked.limit, text, tape, out);
+    finish(asked, listed.refused, listed.at, out);
 }
 
 fn list_events(
     asked: Asked,
     text: &[u8],
     items: &mut [u8],
-    tape: &mut [u8],
+    events: &mut [u8],
     out: &mut [u8; 65536],
 ) {
-    let a = events::read(asked, text, items, tape);
-    if a.number == refusal::DONE {
-        let at = events::rows(asked, text, tape, a.events, out);
-        finish(asked, false, at, out);
-        return;
-    }
-    let error = print::first_error(items, a.items);
-    let at = print::put_report(out, 0, asked.colour, text, a.number, a.place, error);
-    finish(asked, true, at, out);
+    let a = read(asked, text, items, events);
+    let listed = lists::list_events(style_of(asked), text, items, events, a, out);
+    finish(asked, listed.refused, listed.at, out);
 }
 
 // A page is made of any text that the reader takes. Where it takes none, the page says why.
 fn make_page(asked: Asked, text: &[u8], items: &mut [u8], tape: &mut [u8], out: &mut [u8; 65536]) {
-    let a = events::read(asked, text, items, tape);
+    let a = read(asked, text, items, tape);
     let at = page::put_page(out, 0, text, items, tape, a);
     finish(asked, page::is_cut(a.number), at, out);
 }

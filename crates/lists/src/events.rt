@@ -1,43 +1,35 @@
 // The list of a text's events: what the grammar finds, indented by nesting.
-use crate::asked::Asked;
-use crate::list::colour_of;
-use crate::list::put_covered;
-use crate::list::put_span;
-use crate::list::put_word;
+use crate::row::Listed;
+use crate::row::Style;
+use crate::row::colour_of;
+use crate::row::put_covered;
+use crate::row::put_span;
+use crate::row::put_word;
 use codes::node;
-use paumelu::Answer;
+use codes::refusal;
 use print::digits;
 use print::entry_at;
+use print::first_error;
 use print::less;
 use print::put;
 use print::put_colour;
 use print::put_event;
 use print::put_number;
+use print::put_report;
 use print::put_times;
 use print::sum;
+use reader::Answer;
 use tape::Entry;
+ghost use mathlib.Core.Path.{_≡_};
+ghost use mathlib.Core.Bool.{not};
+ghost use lib.Dec.{eqb};
+ghost use Rattle.codes.specs.Refusals.{done};
 ghost use Rattle.print.specs.Place.{Place};
 
 // The output's place, and how many nodes are open.
-pub struct Nest {
-    pub at: usize,
-    pub open: usize,
-}
-
-// Reads the text by one of the grammar's entries; by that of a selection set where the entry is none of the others.
-pub fn read(asked: Asked, text: &[u8], items: &mut [u8], events: &mut [u8]) -> Answer {
-    let limit = asked.limit;
-    let depth = asked.depth;
-    if asked.entry == b'1' {
-        return paumelu::read_value(text, limit, depth, items, events);
-    }
-    if asked.entry == b'2' {
-        return paumelu::read_constant(text, limit, depth, items, events);
-    }
-    if asked.entry == b'3' {
-        return paumelu::read_type(text, limit, depth, items, events);
-    }
-    paumelu::read_selection_set(text, limit, depth, items, events)
+struct Nest {
+    at: usize,
+    open: usize,
 }
 
 // The colour of an event: nodes have that of names.
@@ -94,13 +86,13 @@ fn opened(open: usize, code: u8) -> usize {
     open
 }
 
-fn row(asked: Asked, index: usize, text: &[u8], e: Entry, nest: Nest, out: &mut [u8; 65536]) -> Nest
+fn row(style: Style, index: usize, text: &[u8], e: Entry, nest: Nest, out: &mut [u8; 65536]) -> Nest
     requires { ⌜ Place (nest .at) ⌝ }
     ensures { λ r. ⌜ Place (r .at) ⌝ }
 {
     let code = e.code;
     let open = opened(nest.open, code);
-    if asked.words {
+    if style.words {
         return Nest {
             at: put_word(out, nest.at, e),
             open,
@@ -109,24 +101,52 @@ fn row(asked: Asked, index: usize, text: &[u8], e: Entry, nest: Nest, out: &mut 
     // a node's closing stands where its opening does
     let shown = if open < nest.open { open } else { nest.open };
     Nest {
-        at: put_row(out, nest.at, asked.colour, index, shown, text, e),
+        at: put_row(out, nest.at, style.colour, index, shown, text, e),
         open,
     }
 }
 
 // The rows of the tape's first `count` events.
-pub fn rows(
-    asked: Asked,
-    text: &[u8],
-    events: &[u8],
-    count: usize,
-    out: &mut [u8; 65536],
-) -> usize {
+fn rows(style: Style, text: &[u8], events: &[u8], count: usize, out: &mut [u8; 65536]) -> usize
+    ensures { λ r. ⌜ Place r ⌝ }
+{
     let mut nest = Nest { at: 0, open: 0 };
     let mut i = 0;
     while i < count {
-        nest = row(asked, i + 1, text, entry_at(events, i), nest, out);
+        nest = row(style, i + 1, text, entry_at(events, i), nest, out);
         i += 1;
     }
     nest.at
+}
+
+// Lists the events that the answer tells of, or its refusal.
+pub fn list_events(
+    style: Style,
+    text: &[u8],
+    items: &[u8],
+    events: &[u8],
+    answer: Answer,
+    out: &mut [u8; 65536],
+) -> Listed
+    ensures { λ r. ⌜ Place (r .at) × (r .refused ≡ not (eqb (answer .number) done)) ⌝ }
+{
+    if answer.number == refusal::DONE {
+        return Listed {
+            at: rows(style, text, events, answer.events, out),
+            refused: false,
+        };
+    }
+    let error = first_error(items, answer.items);
+    Listed {
+        at: put_report(
+            out,
+            0,
+            style.colour,
+            text,
+            answer.number,
+            answer.place,
+            error,
+        ),
+        refused: true,
+    }
 }

@@ -1,16 +1,16 @@
--- `show::list::go_through` is safe and ends. Assumes nothing.
+-- `lists::items::go_through` is safe and ends. Assumes nothing.
 use mathlib.Core.Path.{_≡_}
 use borrow.Author.Needs.{needs}
 use lib.ListN.{length}
 use Rattle.print.specs.Place.{Place}
-use Rattle.show.proofs.list.go_through.Statement.{statement}
-use Rattle.show.proofs.list.go_through.Tie as tie
+use Rattle.lists.proofs.items.go_through.Statement.{statement}
+use Rattle.lists.proofs.items.go_through.Tie as tie
 
 abbrev Inv-loop : tie.InvT-loop
-Inv-loop asked errors-only text tape₀ out₀ pass₀ turns₀ tape out pass turns = (length tape ≡ length tape₀) × Place (pass .walk .at)
+Inv-loop style limit errors-only text tape₀ out₀ pass₀ turns₀ tape out pass turns = (length tape ≡ length tape₀) × Place (pass .walk .at)
 
 abbrev μ-loop : tie.MeasureT-loop
-μ-loop asked errors-only text tape₀ out₀ pass₀ turns₀ tape out pass turns = turns
+μ-loop style limit errors-only text tape₀ out₀ pass₀ turns₀ tape out pass turns = turns
 
 sum-requires : tie.Need-sum-requires Inv-loop μ-loop
 sum-requires c κs = search needs

@@ -1,6 +1,11 @@
 // The list of a text's items. A text may have more items than the tape has room for: then the tape is filled again from the first unread byte on,
 // where the items are those of the rest of the text, read alone and moved (`suffix` in crates/rules/proofs/Tiling.antt).
-use crate::asked::Asked;
+use crate::row::Listed;
+use crate::row::Style;
+use crate::row::colour_of;
+use crate::row::put_covered;
+use crate::row::put_span;
+use crate::row::put_word;
 use codes::item;
 use codes::refusal;
 use print::Spot;
@@ -12,11 +17,10 @@ use print::put;
 use print::put_caret;
 use print::put_colour;
 use print::put_error_item;
-use print::put_hex2;
-use print::put_hex7;
+use print::put_if;
 use print::put_kind;
 use print::put_number;
-use print::put_shown;
+use print::put_report;
 use print::put_times;
 use print::sum;
 use tape::Entry;
@@ -24,23 +28,23 @@ ghost use mathlib.Core.Path.{_≡_};
 ghost use Rattle.print.specs.Place.{Place};
 
 // What a pass over the items carries along: the output's place, how many error items there were, and the place in the text.
-pub struct Walk {
-    pub at: usize,
-    pub errors: usize,
-    pub spot: Spot,
+struct Walk {
+    at: usize,
+    errors: usize,
+    spot: Spot,
 }
 
 // How far a pass has come: the reader's number, the first unread byte, and how many items were given.
-pub struct Pass {
-    pub walk: Walk,
-    pub number: usize,
-    pub place: usize,
-    pub given: usize,
+struct Pass {
+    walk: Walk,
+    number: usize,
+    place: usize,
+    given: usize,
 }
 
 impl Pass {
     // A pass that is to begin, at a place of the output.
-    pub fn new(at: usize) -> Self
+    fn new(at: usize) -> Self
         ensures { λ r. ⌜ r .walk .at ≡ at ⌝ }
     {
         let walk = Walk {
@@ -65,54 +69,6 @@ fn moved(e: Entry, offset: usize) -> Entry {
     }
 }
 
-// A tape's word, as document 01 writes it.
-pub fn put_word(out: &mut [u8; 65536], at: usize, e: Entry) -> usize
-    requires { ⌜ Place at ⌝ }
-    ensures { λ r. ⌜ Place r ⌝ }
-{
-    let to = put_hex2(out, at, e.code as usize);
-    let to = put_hex7(out, to, e.start);
-    let to = put_hex7(out, to, e.size);
-    put(out, to, b'\n')
-}
-
-// The colour of an item's kind.
-pub fn colour_of(code: u8) -> usize {
-    if code >= item::ERROR {
-        return 5;
-    }
-    match code {
-        item::EOF..=item::COMMENT => 0,
-        item::NAME => 1,
-        item::STRING_VALUE => 2,
-        item::INT | item::FLOAT => 3,
-        _ => 4,
-    }
-}
-
-// Start and end.
-pub fn put_span(out: &mut [u8; 65536], at: usize, width: usize, start: usize, end: usize) -> usize
-    requires { ⌜ Place at ⌝ }
-    ensures { λ r. ⌜ Place r ⌝ }
-{
-    let to = put(out, at, b' ');
-    let to = put_number(out, to, start, width);
-    let to = put_times(out, to, b' ', 2);
-    put_number(out, to, end, width)
-}
-
-// What the entry covers, if anything, shortened.
-pub fn put_covered(out: &mut [u8; 65536], at: usize, text: &[u8], e: Entry) -> usize
-    requires { ⌜ Place at ⌝ }
-    ensures { λ r. ⌜ Place r ⌝ }
-{
-    if e.size == 0 {
-        return at;
-    }
-    let to = put_times(out, at, b' ', 2);
-    put_shown(out, to, false, paumelu::part(text, e.start, e.size), 40)
-}
-
 fn put_item(
     out: &mut [u8; 65536],
     at: usize,
@@ -135,7 +91,7 @@ fn put_item(
     put(out, to, b'\n')
 }
 
-fn error_row(asked: Asked, text: &[u8], e: Entry, walk: Walk, out: &mut [u8; 65536]) -> Walk
+fn error_row(style: Style, text: &[u8], e: Entry, walk: Walk, out: &mut [u8; 65536]) -> Walk
     requires { ⌜ Place (walk .at) ⌝ }
     ensures { λ r. ⌜ Place (r .at) ⌝ }
 {
@@ -145,7 +101,7 @@ fn error_row(asked: Asked, text: &[u8], e: Entry, walk: Walk, out: &mut [u8; 655
     }
     let spot = forward(text, walk.spot, e.start);
     let end = sum(e.start, e.size);
-    let at = put_error_item(out, walk.at, asked.colour, code - item::ERROR, spot, end);
+    let at = put_error_item(out, walk.at, style.colour, code - item::ERROR, spot, end);
     let at = put(out, at, b'\n');
     let at = put_caret(out, at, text, spot);
     Walk {
@@ -157,7 +113,7 @@ fn error_row(asked: Asked, text: &[u8], e: Entry, walk: Walk, out: &mut [u8; 655
 
 // The row of an item; or that of an error item only.
 fn row(
-    asked: Asked,
+    style: Style,
     errors_only: bool,
     width: usize,
     index: usize,
@@ -170,7 +126,7 @@ fn row(
     ensures { λ r. ⌜ Place (r .at) ⌝ }
 {
     if errors_only {
-        return error_row(asked, text, e, walk, out);
+        return error_row(style, text, e, walk, out);
     }
     let errors = if e.code < item::ERROR {
         walk.errors
@@ -178,7 +134,7 @@ fn row(
         sum(walk.errors, 1)
     };
     let spot = walk.spot;
-    if asked.words {
+    if style.words {
         return Walk {
             at: put_word(out, walk.at, e),
             errors,
@@ -186,7 +142,7 @@ fn row(
         };
     }
     Walk {
-        at: put_item(out, walk.at, asked.colour, width, index, text, e),
+        at: put_item(out, walk.at, style.colour, width, index, text, e),
         errors,
         spot,
     }
@@ -194,7 +150,7 @@ fn row(
 
 // The rows of the tape's first `count` items: all of them, or those of the error items only.
 fn rows(
-    asked: Asked,
+    style: Style,
     errors_only: bool,
     text: &[u8],
     tape: &[u8],
@@ -213,14 +169,14 @@ fn rows(
     while i < count {
         let e = moved(entry_at(tape, i), offset);
         let index = sum(given, i + 1);
-        walk = row(asked, errors_only, width, index, text, e, walk, out);
+        walk = row(style, errors_only, width, index, text, e, walk, out);
         i += 1;
     }
     walk
 }
 
 fn rest(text: &[u8], offset: usize) -> &[u8] {
-    paumelu::part(text, offset, less(text.len(), offset))
+    reader::part(text, offset, less(text.len(), offset))
 }
 
 // Does a pass end after a tape? It does unless the tape was full, or where the output cannot be written.
@@ -234,7 +190,8 @@ fn is_last(pass: Pass) -> bool {
 
 // One tape of items, from where the pass stands.
 fn portion(
-    asked: Asked,
+    style: Style,
+    limit: usize,
     errors_only: bool,
     text: &[u8],
     tape: &mut [u8],
@@ -246,9 +203,9 @@ fn portion(
 {
     let offset = from.place;
     let given = from.given;
-    let a = paumelu::read_items(rest(text, offset), less(asked.limit, given), tape);
+    let a = reader::read_items(rest(text, offset), less(limit, given), tape);
     let walk = rows(
-        asked,
+        style,
         errors_only,
         text,
         tape,
@@ -267,8 +224,9 @@ fn portion(
 }
 
 // One pass over all items, tape after tape. Each tape but the last holds an item or more, so there are no more tapes than bytes, and one.
-pub fn go_through(
-    asked: Asked,
+fn go_through(
+    style: Style,
+    limit: usize,
     errors_only: bool,
     text: &[u8],
     tape: &mut [u8],
@@ -281,11 +239,58 @@ pub fn go_through(
     let mut pass = start;
     let mut turns = sum(text.len(), 1);
     while turns > 0 {
-        pass = portion(asked, errors_only, text, tape, pass, out);
+        pass = portion(style, limit, errors_only, text, tape, pass, out);
         if is_last(pass) {
             return pass;
         }
         turns -= 1;
     }
     pass
+}
+
+// After the list come the error items with their lines.
+fn list_errors(
+    style: Style,
+    limit: usize,
+    text: &[u8],
+    tape: &mut [u8],
+    listed: Walk,
+    out: &mut [u8; 65536],
+) -> usize
+    requires { ⌜ Place (listed .at) ⌝ }
+    ensures { λ r. ⌜ Place r ⌝ }
+{
+    if listed.errors == 0 {
+        return listed.at;
+    }
+    let at = put(out, listed.at, b'\n');
+    let pass = go_through(style, limit, true, text, tape, Pass::new(at), out);
+    let walk = pass.walk;
+    walk.at
+}
+
+// Lists the items of the text, then its error items, and then a refusal.
+pub fn list_items(
+    style: Style,
+    limit: usize,
+    text: &[u8],
+    tape: &mut [u8],
+    out: &mut [u8; 65536],
+) -> Listed
+    ensures { λ r. ⌜ Place (r .at) ⌝ }
+{
+    let pass = go_through(style, limit, false, text, tape, Pass::new(0), out);
+    let walk = pass.walk;
+    let at = list_errors(style, limit, text, tape, walk, out);
+    if pass.number == refusal::DONE {
+        return Listed {
+            at,
+            refused: walk.errors != 0,
+        };
+    }
+    let at = put_if(out, at, pass.given != 0, b'\n');
+    Listed {
+        at: put_report(out, at, style.colour, text, pass.number, pass.place, 0),
+        refused: true,
+    }
 }

@@ -1,15 +1,15 @@
--- `show::events::rows` is safe and ends. Assumes nothing.
+-- `lists::events::rows` is safe and ends. Assumes nothing.
 use Prim.Native.Nat.{_≤_, _-_}
 use borrow.Author.Needs.{needs}
 use Rattle.print.specs.Place.{Place}
-use Rattle.show.proofs.events.rows.Statement.{statement}
-use Rattle.show.proofs.events.rows.Tie as tie
+use Rattle.lists.proofs.events.rows.Statement.{statement}
+use Rattle.lists.proofs.events.rows.Tie as tie
 
 abbrev Inv-loop : tie.InvT-loop
-Inv-loop asked text events count out₀ nest₀ i₀ out nest i = (i ≤ count) × Place (nest .at)
+Inv-loop style text events count out₀ nest₀ i₀ out nest i = (i ≤ count) × Place (nest .at)
 
 abbrev μ-loop : tie.MeasureT-loop
-μ-loop asked text events count out₀ nest₀ i₀ out nest i = count - i
+μ-loop style text events count out₀ nest₀ i₀ out nest i = count - i
 
 loop-holds : tie.Need-loop-holds Inv-loop μ-loop
 loop-holds c = search needs

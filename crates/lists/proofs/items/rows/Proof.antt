@@ -1,15 +1,15 @@
--- `show::list::rows` is safe and ends. Assumes nothing.
+-- `lists::items::rows` is safe and ends. Assumes nothing.
 use Prim.Native.Nat.{_≤_, _-_}
 use borrow.Author.Needs.{needs}
 use Rattle.print.specs.Place.{Place}
-use Rattle.show.proofs.list.rows.Statement.{statement}
-use Rattle.show.proofs.list.rows.Tie as tie
+use Rattle.lists.proofs.items.rows.Statement.{statement}
+use Rattle.lists.proofs.items.rows.Tie as tie
 
 abbrev Inv-loop : tie.InvT-loop
-Inv-loop asked errors-only text tape count offset given out₀ width walk₀ i₀ out walk i = (i ≤ count) × Place (walk .at)
+Inv-loop style errors-only text tape count offset given out₀ width walk₀ i₀ out walk i = (i ≤ count) × Place (walk .at)
 
 abbrev μ-loop : tie.MeasureT-loop
-μ-loop asked errors-only text tape count offset given out₀ width walk₀ i₀ out walk i = count - i
+μ-loop style errors-only text tape count offset given out₀ width walk₀ i₀ out walk i = count - i
 
 sum-requires : tie.Need-sum-requires Inv-loop μ-loop
 sum-requires c κs = search needs
