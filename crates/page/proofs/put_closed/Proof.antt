@@ -1,4 +1,4 @@
--- `page::put_closed` is safe and ends. Assumes nothing.
+-- `page::put_closed` meets its contract: the place stays one. Assumes nothing.
 use Prim.Native.Nat.{_-_}
 use borrow.Author.Needs.{needs}
 use Rattle.print.specs.Place.{Place}

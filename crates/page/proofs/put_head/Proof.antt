@@ -1,4 +1,4 @@
--- `page::put_head` is safe and ends. Assumes nothing.
+-- `page::put_head` meets its contract: the place stays one. Assumes nothing.
 use borrow.Author.Needs.{needs}
 use Rattle.print.specs.Place.{Place}
 use Rattle.page.proofs.put_head.Statement.{statement}

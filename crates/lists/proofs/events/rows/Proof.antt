@@ -1,4 +1,4 @@
--- `lists::events::rows` is safe and ends. Assumes nothing.
+-- `lists::events::rows` meets its contract: the place stays one. Assumes nothing.
 use Prim.Native.Nat.{_≤_, _-_}
 use borrow.Author.Needs.{needs}
 use Rattle.print.specs.Place.{Place}

@@ -1,4 +1,4 @@
--- `lists::items::go_through` is safe and ends. Assumes nothing.
+-- `lists::items::go_through` meets its contract: the place stays one. Assumes nothing.
 use mathlib.Core.Path.{_≡_}
 use borrow.Author.Needs.{needs}
 use lib.ListN.{length}

@@ -1,4 +1,4 @@
--- `lists::items::rows` is safe and ends. Assumes nothing.
+-- `lists::items::rows` meets its contract: the place stays one. Assumes nothing.
 use Prim.Native.Nat.{_≤_, _-_}
 use borrow.Author.Needs.{needs}
 use Rattle.print.specs.Place.{Place}

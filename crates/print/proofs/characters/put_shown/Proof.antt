@@ -1,4 +1,4 @@
--- `print::characters::put_shown` is safe and ends. Assumes nothing.
+-- `print::characters::put_shown` meets its contract: the place stays one. Assumes nothing.
 use Prim.Native.Nat.{_≤_, _-_}
 use borrow.Author.Needs.{needs}
 use lib.ListN.{length}

@@ -1,4 +1,4 @@
--- `print::lines::forward` is safe and ends. Assumes nothing.
+-- `print::lines::forward` meets its contract: it goes byte after byte. Assumes nothing.
 use Prim.Native.Nat.{_-_, _≤_, max}
 use mathlib.Core.Path.{_≡_}
 use borrow.Author.Needs.{needs}

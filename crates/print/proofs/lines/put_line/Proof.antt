@@ -1,4 +1,4 @@
--- `print::lines::put_line` is safe and ends. Assumes nothing.
+-- `print::lines::put_line` meets its contract: the place stays one. Assumes nothing.
 use Prim.Native.Nat.{_≤_, _-_}
 use borrow.Author.Needs.{needs}
 use lib.ListN.{length}

@@ -1,4 +1,4 @@
--- `print::output::put_form` is safe and ends. Assumes nothing.
+-- `print::output::put_form` meets its contract: the place stays one. Assumes nothing.
 use Prim.Native.Nat.{_≤_, _-_}
 use borrow.Author.Needs.{needs}
 use lib.ListN.{length}
