@@ -19,6 +19,7 @@ use reader::Answer;
 use tape::Entry;
 ghost use mathlib.Core.Path.{_≡_};
 ghost use Rattle.base.specs.Text.{from};
+ghost use Rattle.codes.specs.Refusals.{depthLimit, itemTapeFull};
 ghost use Rattle.print.specs.Place.{Place};
 
 // The last code of an event that closes a node.
@@ -34,7 +35,7 @@ struct Mark {
 
 // Did the reader stop before the end of the text?
 pub fn is_cut(number: usize) -> bool
-    ensures { λ r. ⌜ r ≡ from 1 5 number ⌝ }
+    ensures { λ r. ⌜ r ≡ from depthLimit itemTapeFull number ⌝ }
 {
     if number < refusal::DEPTH_LIMIT {
         return false;

@@ -1,7 +1,7 @@
 -- Characters as they are shown. Assumes nothing: these are definitions.
 use Prim.Native.Nat.{ℕ}
 use mathlib.Core.List.{List, [], _∷_}
-use mathlib.Core.Bool.{Bool, true, false, _||_}
+use mathlib.Core.Bool.{true, false, _||_}
 use lib.Dec.{leb}
 use lib.ListN.{length, drop, getD}
 use Rattle.base.specs.Text.{pick, Class, from}

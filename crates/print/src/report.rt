@@ -9,6 +9,7 @@ use crate::output::put_form;
 use codes::refusal;
 ghost use mathlib.Core.Path.{_≡_};
 ghost use Rattle.base.specs.Text.{from};
+ghost use Rattle.codes.specs.Refusals.{notUtf8, noSentence};
 ghost use Rattle.print.specs.Place.{Place};
 
 // An error item that starts at the spot, without its line.
@@ -36,7 +37,7 @@ pub fn put_error_item(
 
 // Refusals 1, 2 and 10 have no place in the text.
 fn has_place(number: usize) -> bool
-    ensures { λ r. ⌜ r ≡ from 3 9 number ⌝ }
+    ensures { λ r. ⌜ r ≡ from notUtf8 noSentence number ⌝ }
 {
     if number < refusal::NOT_UTF8 {
         return false;
