@@ -25,11 +25,6 @@ use Rattle.grammar.specs.Answers.{readOf}
 use Rattle.grammar.specs.Promise.{Begins, reads}
 use Rattle.grammar.specs.Promise as promise
 
--- from the first item on
-from-first : (t : List ℕ) → rest t 0 ≡ tokens t
-unfolding rest
-from-first t = refl
-
 -- where nothing but Eof is due, it is all the same what may be constant
 end-run : (c : Bool) (l : ℕ) (ts : List Token) → run c [] l ts ≡ run false [] l ts
 unfolding run step

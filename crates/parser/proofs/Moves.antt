@@ -122,12 +122,6 @@ was-stopped (stopped {number = number} {place = place} k h) n p q =
     let b : place ≡ p = cc in
     (k, rw (a, b) at h)
 
--- the tape keeps its length
-pub kept-length : {c : Bool} {t : List ℕ} {due left : List Sym} {l at : ℕ} {tape : List ℕ} {out : ℕ} {tape′ : List ℕ} {r : Step} → Outcome c t due left l at tape out tape′ r
-    → length tape′ ≡ length tape
-kept-length (took h) = h .went .puts .kept
-kept-length (stopped k h) = k
-
 -- a reading, and then another that answers
 pub then : {c : Bool} {t : List ℕ} {due mid left : List Sym} {l at : ℕ} {tape : List ℕ} {out : ℕ} {tape′ : List ℕ} {n e o : ℕ} {tape″ : List ℕ} {r : Step}
     → Took c t due l at tape out tape′ mid n e o → Outcome c t mid left e n tape′ o tape″ r → Outcome c t due left l at tape out tape″ r

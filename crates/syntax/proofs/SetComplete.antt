@@ -16,7 +16,6 @@ use Rattle.syntax.proofs.Steps.{emits-emits, emits-none, Gives, andThen
 use Rattle.syntax.proofs.ValueComplete.{name-read, value-some, value-read, eof-read}
 use Rattle.syntax.proofs.Forms.{aPlain, anAlias, aFragment, anInline, tailTokens, tailEvents}
 use Rattle.syntax.proofs.BackSets.{directive-events, field-events, spread-events}
-use Rattle.syntax.proofs.SetSound.{set-some}
 
 -- ---- what was proved of names, values and closings
 
@@ -456,11 +455,6 @@ mutual
       → Gives (run false (optSelectionSet r ∷ K) l (optSetTokens x ++ ts)) (optSetEvents x) (run false K (endAfter l (optSetTokens x)) ts)
   optSet-read noSelectionSet r K l ts h n = no-set r K l ts n
   optSet-read (someSelectionSet x) r K l ts h n = same-as (some-set x r K l ts) (set-read x r K l ts h)
-
--- the same, said of the run
-pub set-run : (x : SelectionSet) (r : ℕ) (K : List Sym) (l : ℕ) (ts : List Token) → setDepth x ≤ r
-    → run false (selectionSet r ∷ K) l (setTokens x ++ ts) ≡ emits (setEvents x) (run false K (lastEnd (setTokens x)) ts)
-set-run x r K l ts h = set-read x r K l ts h .is ∙ ap (λ (e : ℕ). emits (setEvents x) (run false K e ts)) (some-end l (setTokens x) (set-some x))
 
 -- a selection set within the limit, then Eof, is accepted, with its events
 pub set-complete : (d : ℕ) (x : SelectionSet) (e : Token) (ts : List Token) → setDepth x ≤ d → e .kind ≡ eof → readSelectionSet d (setTokens x ++ (e ∷ ts)) ≡ accepted (setEvents x)
