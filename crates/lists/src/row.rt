@@ -7,7 +7,9 @@ use print::put_number;
 use print::put_shown;
 use print::put_times;
 use tape::Entry;
+ghost use mathlib.Core.Path.{_≡_};
 ghost use Rattle.print.specs.Place.{Place};
+ghost use Rattle.lists.specs.Colours.{colourOf};
 
 // Tape words instead of rows, and colour.
 pub struct Style {
@@ -33,17 +35,28 @@ pub fn put_word(out: &mut [u8; 65536], at: usize, e: Entry) -> usize
 }
 
 // The colour of an item's kind.
-pub fn colour_of(code: u8) -> usize {
+pub fn colour_of(code: u8) -> usize
+    ensures { λ r. ⌜ r ≡ colourOf code ⌝ }
+{
     if code >= item::ERROR {
         return 5;
     }
-    match code {
-        item::EOF..=item::COMMENT => 0,
-        item::NAME => 1,
-        item::STRING_VALUE => 2,
-        item::INT | item::FLOAT => 3,
-        _ => 4,
+    if code <= item::COMMENT {
+        return 0;
     }
+    if code == item::NAME {
+        return 1;
+    }
+    if code == item::STRING_VALUE {
+        return 2;
+    }
+    if code == item::INT {
+        return 3;
+    }
+    if code == item::FLOAT {
+        return 3;
+    }
+    4
 }
 
 // Start and end.
