@@ -18,7 +18,7 @@ use Rattle.parser.specs.declared.Step.{Step}
 use Rattle.parser.specs.declared.Step.the-variants.{Done}
 use Rattle.parser.specs.View.{rest}
 use Rattle.parser.specs.Promise.{Outcome, took, stopped, Goes, goes, stops}
-use Rattle.types.specs.Promise.{TypeOutcome, given, withheld}
+use Rattle.typerefs.specs.Promise.{TypeOutcome, given, withheld}
 use Rattle.grammar.specs.declared.Entry.{Entry}
 use Rattle.grammar.specs.declared.Entry.the-variants.{Value, Constant, Ty, SelectionSet}
 use Rattle.grammar.specs.Answers.{readOf}

@@ -31,7 +31,7 @@ fn begin(entry: Entry, text: &[u8], items: &[u8], depth: usize, events: &mut [u8
     match entry {
         Entry::Value => values::value::value(text, items, false, 0, depth, events, 0),
         Entry::Constant => values::value::value(text, items, true, 0, depth, events, 0),
-        Entry::Ty => types::ty::ty(text, items, 0, depth, events, 0),
+        Entry::Ty => typerefs::ty::ty(text, items, 0, depth, events, 0),
         Entry::SelectionSet => {
             let start = Step::Done {
                 next: 0,

@@ -72,7 +72,7 @@ fn type_condition(text: &[u8], items: &[u8], token: Peeked, events: &mut [u8], o
     ensures { λ r. ⌜ ((c : Bool) → Begun c (now (text .entry)) (opens nodes.typeCondition (token .start) ∷ tokenEvent (tokenOf token) ∷ []) (namedType ∷ close nodes.typeCondition (token .start) ∷ []) [] (token .next) (token .start + token .size) (now (events .entry)) out (now (events .exit)) r) ⌝ }
 {
     let opened = values::token::open_with(node::TYPE_CONDITION, token, events, out);
-    let named = types::ty::named_type(text, items, token.next, events, opened);
+    let named = typerefs::ty::named_type(text, items, token.next, events, opened);
     then_close(text, named, node::TYPE_CONDITION, token.start, events)
 }
 

@@ -1,11 +1,11 @@
--- `types::ty::ty` meets its contract. Assumes nothing.
+-- `typerefs::ty::ty` meets its contract. Assumes nothing.
 use native.Mathlib.Omega.{arith}
 use mathlib.Core.Path.{refl}
 use borrow.Author.Needs.{needs}
-use Rattle.types.specs.Promise.{withheld}
-use Rattle.types.proofs.Walks.{walked-as, walked-after, type-given, type-withheld}
-use Rattle.types.proofs.ty.ty.Statement.{statement}
-use Rattle.types.proofs.ty.ty.Tie as tie
+use Rattle.typerefs.specs.Promise.{withheld}
+use Rattle.typerefs.proofs.Walks.{walked-as, walked-after, type-given, type-withheld}
+use Rattle.typerefs.proofs.ty.ty.Statement.{statement}
+use Rattle.typerefs.proofs.ty.ty.Tie as tie
 
 slice-aggregate-walk : tie.Need-slice-aggregate-walk
 slice-aggregate-walk c = search needs

@@ -5,29 +5,29 @@ use borrow.Author.Needs.{needs}
 use borrow.Author.Tests.{ne-eqb}
 use Rattle.parser.proofs.Moves.{narrow}
 use Rattle.values.proofs.Steps.{name-kind}
-use Rattle.types.specs.Walk.{walked, refused}
-use Rattle.types.proofs.Walks.{base-name, base-other, base-deep, below-name, list-walk, list-stop, type-walk, type-stop, walked-as, walked-inside}
+use Rattle.typerefs.specs.Walk.{walked, refused}
+use Rattle.typerefs.proofs.Walks.{base-name, base-other, base-deep, below-name, list-walk, list-stop, type-walk, type-stop, walked-as, walked-inside}
 use Prim.Native.Nat.{ℕ, _<_, _+_, _*_}
 use borrow.Fn.Kinds.{In}
 use borrow.Fn.PlainCycle.{Measures, is, falls, and}
-use Rattle.types.proofs.ty.base_type.Reads as base-type
-use Rattle.types.proofs.ty.base_type.Kinds as base-type-kinds
-use Rattle.types.proofs.ty.+base_type+walk.Lts-base_type as base-type-lts
-use Rattle.types.proofs.ty.walk.Reads as walk
-use Rattle.types.proofs.ty.walk.Kinds as walk-kinds
-use Rattle.types.proofs.ty.+base_type+walk.Lts-walk as walk-lts
+use Rattle.typerefs.proofs.ty.base_type.Reads as base-type
+use Rattle.typerefs.proofs.ty.base_type.Kinds as base-type-kinds
+use Rattle.typerefs.proofs.ty.+base_type+walk.Lts-base_type as base-type-lts
+use Rattle.typerefs.proofs.ty.walk.Reads as walk
+use Rattle.typerefs.proofs.ty.walk.Kinds as walk-kinds
+use Rattle.typerefs.proofs.ty.+base_type+walk.Lts-walk as walk-lts
 use Rattle.parser.proofs.peek_token.Reads as peek-token-reads
 use Rattle.parser.proofs.put_named.Reads as put-named-reads
-use Rattle.types.proofs.ty.end_list.Reads as end-list-reads
-use Rattle.types.proofs.ty.end_type.Reads as end-type-reads
-use Rattle.types.proofs.ty.note.Reads as note-reads
-use Rattle.types.proofs.ty.noted.Reads as noted-reads
-use Rattle.types.proofs.ty.open_noted.Reads as open-noted-reads
-use Rattle.types.proofs.ty.too_deep.Reads as too-deep-reads
+use Rattle.typerefs.proofs.ty.end_list.Reads as end-list-reads
+use Rattle.typerefs.proofs.ty.end_type.Reads as end-type-reads
+use Rattle.typerefs.proofs.ty.note.Reads as note-reads
+use Rattle.typerefs.proofs.ty.noted.Reads as noted-reads
+use Rattle.typerefs.proofs.ty.open_noted.Reads as open-noted-reads
+use Rattle.typerefs.proofs.ty.too_deep.Reads as too-deep-reads
 use Rattle.values.proofs.name.is_name.Reads as is-name-reads
 use Rattle.values.proofs.token.open_with.Reads as open-with-reads
-use Rattle.types.proofs.ty.+base_type+walk.{statement}
-use Rattle.types.proofs.ty.+base_type+walk.Tie.{close}
+use Rattle.typerefs.proofs.ty.+base_type+walk.{statement}
+use Rattle.typerefs.proofs.ty.+base_type+walk.Tie.{close}
 
 abbrev μ-base-type : Measures 4 base-type-kinds.ps ℕ
 μ-base-type κs a = 2 * (a .1 .1 .1 .0)

@@ -1,12 +1,12 @@
--- `types::ty::end_type` meets its contract. Assumes nothing.
+-- `typerefs::ty::end_type` meets its contract. Assumes nothing.
 use native.Mathlib.Omega.{arith}
 use mathlib.Core.Path.{refl}
 use borrow.Author.Needs.{needs}
 use borrow.Author.Tests.{eq-eqb, ne-eqb}
 use Rattle.parser.specs.View.{rest, tokenOf}
-use Rattle.types.specs.Walk.{banged, bare}
-use Rattle.types.proofs.ty.end_type.Statement.{statement}
-use Rattle.types.proofs.ty.end_type.Tie as tie
+use Rattle.typerefs.specs.Walk.{banged, bare}
+use Rattle.typerefs.proofs.ty.end_type.Statement.{statement}
+use Rattle.typerefs.proofs.ty.end_type.Tie as tie
 
 returns : tie.Need-returns
 returns c = bare (tokenOf (c .before .before .before .before .before .args .token)) (rest (c .before .before .before .before .before .args .text .now) (c .before .before .before .before .before .args .token .next)) (c .before .before .before .before .before .pre .1 .0 .first) (ne-eqb _ 4 (c .if1 .taken)) refl

@@ -1,9 +1,9 @@
--- `types::ty::open_noted` meets its contract. Assumes nothing.
+-- `typerefs::ty::open_noted` meets its contract. Assumes nothing.
 use borrow.Author.Needs.{needs}
 use borrow.Author.Tests.{eq-eqb, ne-eqb}
 use Rattle.parser.proofs.Events.{puts-none}
-use Rattle.types.proofs.ty.open_noted.Statement.{statement}
-use Rattle.types.proofs.ty.open_noted.Tie as tie
+use Rattle.typerefs.proofs.ty.open_noted.Statement.{statement}
+use Rattle.typerefs.proofs.ty.open_noted.Tie as tie
 
 returns : tie.Need-returns
 returns c = rw (ne-eqb (c .before .before .args .kind) 4 (c .if1 .taken)) (puts-none (c .before .before .args .events .now) (c .before .before .args .out))

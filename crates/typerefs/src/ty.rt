@@ -20,8 +20,8 @@ ghost use Rattle.syntax.specs.TypeReading.{typeAt};
 ghost use Rattle.parser.specs.View.{Holds, Front, Seen, rest};
 ghost use Rattle.parser.specs.Events.{Puts};
 ghost use Rattle.parser.specs.Promise.{Outcome};
-ghost use Rattle.types.specs.Promise.{TypeOutcome};
-ghost use Rattle.types.specs.Walk.{baseAt, Below, Noted, Marked, Walked, Closed, Ended};
+ghost use Rattle.typerefs.specs.Promise.{TypeOutcome};
+ghost use Rattle.typerefs.specs.Walk.{baseAt, Below, Noted, Marked, Walked, Closed, Ended};
 
 // A named type is due.
 pub fn named_type(text: &[u8], items: &[u8], at: usize, events: &mut [u8], out: usize) -> Step

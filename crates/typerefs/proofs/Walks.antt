@@ -18,8 +18,8 @@ use Rattle.parser.specs.declared.Step.the-variants.{Done, Stop}
 use Rattle.parser.specs.View.{rest, tokenOf, Front}
 use Rattle.parser.specs.Events.{Puts}
 use Rattle.parser.proofs.Events.{puts-then}
-use Rattle.types.specs.Promise.{TypeOutcome, given, withheld}
-use Rattle.types.specs.Walk.{listed, baseAt, Below, Noted, Marked, Walked, walked, refused, Closed, closed, unclosed, Ended, banged, bare}
+use Rattle.typerefs.specs.Promise.{TypeOutcome, given, withheld}
+use Rattle.typerefs.specs.Walk.{listed, baseAt, Below, Noted, Marked, Walked, walked, refused, Closed, closed, unclosed, Ended, banged, bare}
 
 -- what was read from s on, and its `!`
 abbrev more : (s : ℕ) → TypeRead → TypeRead

@@ -1,9 +1,9 @@
--- `types::ty::note` meets its contract. Assumes nothing.
+-- `typerefs::ty::note` meets its contract. Assumes nothing.
 use native.Mathlib.Omega.{arith}
 use lib.Seq.{getD-set-same, getD-set-other}
 use borrow.Author.Needs.{needs}
-use Rattle.types.proofs.ty.note.Statement.{statement}
-use Rattle.types.proofs.ty.note.Tie as tie
+use Rattle.typerefs.proofs.ty.note.Statement.{statement}
+use Rattle.typerefs.proofs.ty.note.Tie as tie
 
 slice-write-follows : tie.Need-slice-write-follows
 slice-write-follows c = search needs

@@ -1,12 +1,12 @@
--- `types::ty::end_list` meets its contract. Assumes nothing.
+-- `typerefs::ty::end_list` meets its contract. Assumes nothing.
 use native.Mathlib.Omega.{arith}
 use mathlib.Core.Path.{refl}
 use borrow.Author.Needs.{needs}
 use borrow.Author.Tests.{eq-eqb, ne-eqb}
 use Rattle.parser.specs.View.{rest, tokenOf}
-use Rattle.types.specs.Walk.{closed, unclosed}
-use Rattle.types.proofs.ty.end_list.Statement.{statement}
-use Rattle.types.proofs.ty.end_list.Tie as tie
+use Rattle.typerefs.specs.Walk.{closed, unclosed}
+use Rattle.typerefs.proofs.ty.end_list.Statement.{statement}
+use Rattle.typerefs.proofs.ty.end_list.Tie as tie
 
 peek-token-requires : tie.Need-peek-token-requires
 peek-token-requires c κs = search needs

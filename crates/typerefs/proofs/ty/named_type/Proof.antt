@@ -1,4 +1,4 @@
--- `types::named_type` meets its contract. Assumes nothing.
+-- `typerefs::named_type` meets its contract. Assumes nothing.
 use mathlib.Core.Path.{refl, sym, _∙_}
 use native.Mathlib.Omega.{arith}
 use mathlib.Core.List.{[], _∷_}
@@ -7,10 +7,10 @@ use Rattle.syntax.specs.Machine.{namedType}
 use Rattle.parser.specs.Promise.{took, stopped}
 use Rattle.parser.proofs.Moves.{narrow, took-one, stop-one}
 use Rattle.values.proofs.Steps.{name-kind}
-use Rattle.types.proofs.Steps.{at-named-type, no-named-type}
+use Rattle.typerefs.proofs.Steps.{at-named-type, no-named-type}
 use borrow.Author.Needs.{needs}
-use Rattle.types.proofs.ty.named_type.Statement.{statement}
-use Rattle.types.proofs.ty.named_type.Tie as tie
+use Rattle.typerefs.proofs.ty.named_type.Statement.{statement}
+use Rattle.typerefs.proofs.ty.named_type.Tie as tie
 
 peek-token-requires : tie.Need-peek-token-requires
 peek-token-requires c κs = search needs

@@ -1,0 +1,3 @@
+-- What the contracts of typerefs cite.
+pub mod Promise
+pub mod Walk

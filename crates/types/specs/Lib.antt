@@ -1,3 +1,0 @@
--- What the contracts of types cite.
-pub mod Promise
-pub mod Walk
