@@ -5,3 +5,4 @@ pub mod Lexed
 pub mod Steps
 pub mod Advance
 pub mod Unique
+pub mod Pending

@@ -1,21 +1,12 @@
 -- Reading with the cursor, on plain values: what holds at the loop's head, and what the cursor's step makes of it. Assumes nothing.
 use mathlib.Core.Path.{_≡_, refl, sym, ap, _∙_}
-use mathlib.Core.Bool.{true}
 use mathlib.Core.List.{List, [], _∷_}
 use Prim.Native.Nat.{ℕ, _+_, _*_, _^_, _≤_, _<_}
-use native.Mathlib.Nat.{not-suc-le-zero}
 use native.Mathlib.Omega.{arith}
-use borrow.Author.Tests.{eqb-true}
-use lib.Dec.{eqb}
 use lib.ListN.{length, drop, length-drop}
-use Rattle.base.specs.Item.{Lexeme}
-use Rattle.base.proofs.Tests.{by}
 use Rattle.tape.specs.Entry.{entrySize, room, entry, overAt}
-use Rattle.rules.specs.Faults.{stringScan}
-use Rattle.rules.specs.StringAt.{stringAt}
 use Rattle.rules.specs.Tokens.{tokenAt}
 use Rattle.rules.specs.Items.{errorAt, itemAt, items}
-use Rattle.rules.proofs.StringSizes.{string-fits}
 use Rattle.rules.proofs.Bounds.{item-pos, item-le}
 use Rattle.rules.proofs.Codes.{code-at}
 use Rattle.lexer.specs.declared.cursor.Cursor.{Cursor}
@@ -23,7 +14,7 @@ use Rattle.lexer.specs.declared.cursor.Advanced.{Advanced}
 use Rattle.lexer.specs.Scan.{codeOf, sizeOf}
 use Rattle.lexer.specs.Cursor.{keptBy, Clear, advancedOf}
 use Rattle.lexer.proofs.Lexed.{code-lexed, size-lexed}
-use Rattle.lexer.proofs.Advance.{quote-item}
+use Rattle.lexer.proofs.Pending.{kept-at-end}
 use Rattle.reader.specs.Answers.{longest, answer, givenAnswer, givenTape}
 use Rattle.reader.proofs.Turn.{State, begin, fits-entry, at-end, at-end-tape, size-pos, next}
 
@@ -41,21 +32,6 @@ start t old limit space c h r i e = record {
   clear = record { within = omega arith; none = λ l. e };
   state = rw i (begin itemAt item-pos item-le t old limit);
 }
-
--- a fault is kept only behind an item that reaches the text's end
-kept-at-end : (err : ℕ) (s : List ℕ) → 0 < length s → itemAt s .size < length s → keptBy err s ≡ 0
-unfolding keptBy stringAt
-kept-at-end err [] p h = absurd (not-suc-le-zero p)
-kept-at-end err (b ∷ s) p h = by (eqb b 34) (λ q. quote b s q h) (λ q. rw q)
-  where
-    cut : (s : List ℕ) → itemAt (34 ∷ s) .size < length (34 ∷ s) → stringScan (34 ∷ s) .closed ≡ true
-    cut s h = by (stringScan (34 ∷ s) .closed) (λ e. e) (λ e.
-        let l = string-fits 34 s .to-the-end e in
-        let z : itemAt (34 ∷ s) .size ≡ stringScan (34 ∷ s) .size = ap (λ (x : Lexeme). x .size) (quote-item s) in
-        absurd (omega arith))
-
-    quote : (b : ℕ) (s : List ℕ) → eqb b 34 ≡ true → itemAt (b ∷ s) .size < length (b ∷ s) → keptBy err (b ∷ s) ≡ 0
-    quote b s q h = let e = eqb-true b 34 q in rw e (rw (cut s (rw e at h)))
 
 -- a code fits a byte
 pub code-fits : (t old : List ℕ) (limit space : ℕ) (tape : List ℕ) (c : Cursor) (n : ℕ) → Head t old limit space tape c n
