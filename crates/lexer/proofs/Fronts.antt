@@ -21,13 +21,19 @@ use Rattle.rules.specs.Classes.{nameStart, nameContinue, notLineEnd}
 use Rattle.rules.specs.Rules.{spread, punctuator}
 use Rattle.rules.specs.Tokens.{blank, blanks, punctuatorAt, tokenAt}
 use Rattle.rules.specs.Errors.{starter, unexpected, twoDots, oneDot, error}
-use Rattle.rules.specs.Items.{itemAt}
+use Rattle.rules.specs.Items.{errorAt, itemAt}
 use Rattle.rules.proofs.Blanks.{blank-le}
 use Rattle.rules.proofs.Tokens.{name-sound, comment-sound, blanks-token}
 use Rattle.rules.proofs.Items.{no-rule, item-complete, token-item}
 use Rattle.lookup.specs.Class.{punctuationOf, classOf}
 use Rattle.lookup.proofs.Classes.{Is, view, punctuator-code}
 use Rattle.lookup.proofs.Classes as classes
+
+-- the text's end
+pub eof-item : (t : List ℕ) → length t ≡ 0 → itemAt t ≡ lexeme 0 0
+unfolding itemAt tokenAt errorAt
+eof-item [] e = refl
+eof-item (b ∷ r) e = absurd (omega arith)
 
 -- a name
 pub name-item : (t : List ℕ) → 0 < length t → nameStart (getD t 0 0) ≡ true → itemAt t ≡ lexeme 18 (1 + run nameContinue (drop 1 t))

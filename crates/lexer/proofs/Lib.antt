@@ -1,8 +1,7 @@
 -- Laws of the scanners.
 pub mod Blanks
 pub mod Fronts
-pub mod Lexed
-pub mod Steps
-pub mod Advance
+pub mod Found
+pub mod Strings
+pub mod Own
 pub mod Unique
-pub mod Pending

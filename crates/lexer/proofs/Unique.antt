@@ -3,10 +3,12 @@ use Prim.Native.Nat.{ℕ}
 use mathlib.Core.Path.{_≡_, sym, ap, _∙_}
 use Rattle.base.proofs.Results.{Unique}
 use Rattle.lexer.specs.declared.cursor.Cursor.{Cursor}
-use Rattle.lexer.proofs.cursor.code_of.Kinds as code-of-kinds
-use Rattle.lexer.proofs.cursor.code_of.Reads as code-of
-use Rattle.lexer.proofs.cursor.size_of.Kinds as size-of-kinds
-use Rattle.lexer.proofs.cursor.size_of.Reads as size-of
+use Rattle.lexer.proofs.lexed.code_of.Kinds as code-of-kinds
+use Rattle.lexer.proofs.lexed.code_of.Reads as code-of
+use Rattle.lexer.proofs.lexed.size_of.Kinds as size-of-kinds
+use Rattle.lexer.proofs.lexed.size_of.Reads as size-of
+use Rattle.lexer.proofs.scan.scan.Kinds as scan-kinds
+use Rattle.lexer.proofs.scan.scan.Reads as scan
 use Rattle.lexer.proofs.cursor.Cursor.new.Kinds as new-kinds
 use Rattle.lexer.proofs.cursor.Cursor.new.Reads as new
 use Rattle.lexer.proofs.cursor.Cursor.advance.Kinds as advance-kinds
@@ -20,12 +22,16 @@ code-of-unique κs a r q s z e f = e ∙ sym f
 pub size-of-unique : Unique 0 size-of-kinds.ps size-of-kinds.r size-of.Post (λ κs r q s z. r ≡ q)
 size-of-unique κs a r q s z e f = e ∙ sym f
 
--- the contract is of the two fields of a cursor: they are all that it has
+-- what stands at the front of a suffix
+pub scan-unique : Unique 1 scan-kinds.ps scan-kinds.r scan.Post (λ κs r q s z. r ≡ q)
+scan-unique κs a r q s z e f = e ∙ sym f
+
+-- the contract is of the one field of a cursor: it is all that it has
 pub new-unique : Unique 0 new-kinds.ps new-kinds.r new.Post (λ κs r q s z. r ≡ q)
-new-unique κs a r q s z e f = ap (λ (i : ℕ). fields i (r .err)) (e .0 ∙ sym (f .0)) ∙ ap (fields (q .index)) (e .1 ∙ sym (f .1))
+new-unique κs a r q s z e f = ap at (e ∙ sym f)
   where
-    fields : ℕ → ℕ → Cursor
-    fields i k = record { index = i; err = k }
+    at : ℕ → Cursor
+    at i = record { index = i }
 
 -- the item, and the cursor behind it
 pub advance-unique : Unique 1 advance-kinds.ps advance-kinds.r advance.Post (λ κs r q s z. r ≡ q)

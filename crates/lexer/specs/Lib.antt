@@ -1,3 +1,3 @@
 -- What the contracts of the lexer cite.
-pub mod Scan
+pub mod Lexed
 pub mod Cursor

@@ -11,10 +11,9 @@ use Rattle.rules.proofs.Bounds.{item-pos, item-le}
 use Rattle.rules.proofs.Codes.{code-at}
 use Rattle.lexer.specs.declared.cursor.Cursor.{Cursor}
 use Rattle.lexer.specs.declared.cursor.Advanced.{Advanced}
-use Rattle.lexer.specs.Scan.{codeOf, sizeOf}
-use Rattle.lexer.specs.Cursor.{keptBy, Clear, advancedOf}
-use Rattle.lexer.proofs.Lexed.{code-lexed, size-lexed}
-use Rattle.lexer.proofs.Pending.{kept-at-end}
+use Rattle.lexer.specs.Lexed.{codeOf, sizeOf}
+use Rattle.lexer.specs.Cursor.{advancedOf}
+use Rattle.lexer.proofs.Found.{code-lexed, size-lexed}
 use Rattle.reader.specs.Answers.{longest, answer, givenAnswer, givenTape}
 use Rattle.reader.proofs.Turn.{State, begin, fits-entry, at-end, at-end-tape, size-pos, next}
 
@@ -22,14 +21,12 @@ use Rattle.reader.proofs.Turn.{State, begin, fits-entry, at-end, at-end
 pub record Head (t old : List ℕ) (limit space : ℕ) (tape : List ℕ) (c : Cursor) (n : ℕ) : Type 0 where
   pub short : length t ≤ longest
   pub all : space ≡ room old
-  pub clear : Clear t c
   pub state : State itemAt item-pos item-le t old limit tape (c .index) n
 
-pub start : (t old : List ℕ) (limit space : ℕ) (c : Cursor) → length t ≤ longest → space ≡ room old → c .index ≡ 0 → c .err ≡ 0 → Head t old limit space old c 0
-start t old limit space c h r i e = record {
+pub start : (t old : List ℕ) (limit space : ℕ) (c : Cursor) → length t ≤ longest → space ≡ room old → c .index ≡ 0 → Head t old limit space old c 0
+start t old limit space c h r i = record {
   short = h;
   all = r;
-  clear = record { within = omega arith; none = λ l. e };
   state = rw i (begin itemAt item-pos item-le t old limit);
 }
 
@@ -57,7 +54,7 @@ module _ (t old : List ℕ) (limit space : ℕ) (tape : List ℕ) (c : Cursor) (
   size-fits =
       let l = item-le (drop (c .index) t) in
       let d = length-drop (c .index) t in
-      let w = H .clear .within in
+      let w = H .state .within in
       omega (arith, is-size)
 
   -- at the text's end stands Eof, and nowhere else
@@ -65,7 +62,7 @@ module _ (t old : List ℕ) (limit space : ℕ) (tape : List ℕ) (c : Cursor) (
   at-eof z = go (drop (c .index) t) refl
     where
       go : (s : List ℕ) → drop (c .index) t ≡ s → c .index ≡ length t
-      go [] f = let d = length-drop (c .index) t in let w = H .clear .within in omega (arith, ap length f)
+      go [] f = let d = length-drop (c .index) t in let w = H .state .within in omega (arith, ap length f)
       go (b ∷ s) f =
           let k = code-at (b ∷ s) (omega arith) in
           let g : code ≡ itemAt (b ∷ s) .code = rw f at is-code in
@@ -90,7 +87,7 @@ module _ (t old : List ℕ) (limit space : ℕ) (tape : List ℕ) (c : Cursor) (
     put-fits =
         let h = H .short in
         let s = size-fits in
-        let w = H .clear .within in
+        let w = H .state .within in
         (fits-entry itemAt item-pos item-le t old limit tape (c .index) n (H .state) d full, (omega arith, omega arith))
 
     -- the end: Eof is written
@@ -106,10 +103,6 @@ module _ (t old : List ℕ) (limit space : ℕ) (tape : List ℕ) (c : Cursor) (
       unfolding advancedOf
       new-index = ap (λ (x : Advanced). x .cursor .index) e ∙ rw is-size
 
-      new-err : r .cursor .err ≡ keptBy (c .err) (drop (c .index) t)
-      unfolding advancedOf
-      new-err = ap (λ (x : Advanced). x .cursor .err) e
-
       pub further : c .index < r .cursor .index
       further =
           let p = size-pos itemAt item-pos item-le t old limit tape (c .index) n (H .state) d full (not-eof z) in
@@ -119,12 +112,5 @@ module _ (t old : List ℕ) (limit space : ℕ) (tape : List ℕ) (c : Cursor) (
       again = record {
         short = H .short;
         all = H .all;
-        clear = record {
-          within = omega (arith, new-index, size-fits);
-          none = λ l.
-              let m = length-drop (c .index) t in
-              let h = not-eof z in
-              new-err ∙ kept-at-end (c .err) (drop (c .index) t) (omega arith) (omega (arith, new-index, is-size));
-        };
         state = rw (new-index, is-code, is-size) (next itemAt item-pos item-le t old limit tape (c .index) n (H .state) d full (not-eof z));
       }

@@ -11,6 +11,7 @@ use lib.ListN.{length, getD, drop, length-drop, drop-of-length-le}
 use lib.Seq.{drop-cons, drop-drop, getD-drop}
 use Rattle.base.specs.Text.{pick}
 use Rattle.base.proofs.Tests.{refuted, and-true}
+use Rattle.codes.specs.Errors as errors
 use Rattle.rules.specs.Faults.{Scan, quotes, escaped, block}
 use Rattle.rules.proofs.BlockExact.{quotes-true}
 use Rattle.strings.specs.declared.StringState.the-variants.{BlockStringLiteral}
@@ -65,27 +66,27 @@ block-step [] h e = absurd (omega arith)
 block-step (b ∷ bs) h e = rw (e, one-add, suc-add, block-skip (escaped (b ∷ bs)) bs (escaped-in b bs))
 
 -- the answer of a block string that is read on from i
-abbrev pub blockFrom : ℕ → ℕ → List ℕ → StringScan
-blockFrom kept i t = record { closed = block 0 (drop i t) .closed; size = i + block 0 (drop i t) .size; fault = kept; state = BlockStringLiteral }
+abbrev pub blockFrom : ℕ → List ℕ → StringScan
+blockFrom i t = record { closed = block 0 (drop i t) .closed; size = i + block 0 (drop i t) .size; fault = errors.none; state = BlockStringLiteral }
 
 -- it is read on from the opening `"""`
-pub block-begins : (kept : ℕ) (t : List ℕ) → blockOf kept t ≡ blockFrom kept 3 t
+pub block-begins : (t : List ℕ) → blockOf t ≡ blockFrom 3 t
 unfolding blockOf
-block-begins kept t = let e : suc (suc (suc (block 0 (drop 3 t) .size))) ≡ 3 + block 0 (drop 3 t) .size = omega arith in rw e
+block-begins t = let e : suc (suc (suc (block 0 (drop 3 t) .size))) ≡ 3 + block 0 (drop 3 t) .size = omega arith in rw e
 
 -- the closing `"""` stands at i
-pub block-closes : (kept i : ℕ) (t : List ℕ) → i < length t → quotes (drop i t) ≡ true
-    → blockFrom kept i t ≡ record { closed = true; size = i + 3; fault = kept; state = BlockStringLiteral }
+pub block-closes : (i : ℕ) (t : List ℕ) → i < length t → quotes (drop i t) ≡ true
+    → blockFrom i t ≡ record { closed = true; size = i + 3; fault = errors.none; state = BlockStringLiteral }
 unfolding block
-block-closes kept i t h e = rw (shut (drop i t) (simp length-drop (omega arith)) e)
+block-closes i t h e = rw (shut (drop i t) (simp length-drop (omega arith)) e)
   where
     shut : (s : List ℕ) → 0 < length s → quotes s ≡ true → block 0 s ≡ record { closed = true; size = 3; faults = [] }
     shut [] h e = absurd (omega arith)
     shut (b ∷ bs) h e = rw e
 
 -- no `"""` at i: one turn of the loop
-pub block-turn : (kept i : ℕ) (t : List ℕ) → i < length t → quotes (drop i t) ≡ false → blockFrom kept i t ≡ blockFrom kept (i + (1 + escaped (drop i t))) t
-block-turn kept i t h e =
+pub block-turn : (i : ℕ) (t : List ℕ) → i < length t → quotes (drop i t) ≡ false → blockFrom i t ≡ blockFrom (i + (1 + escaped (drop i t))) t
+block-turn i t h e =
     rw (add-assoc, ← drop-drop, block-step (drop i t) (simp length-drop (omega arith)) e)
 
 -- a turn stays within the text
@@ -97,6 +98,6 @@ block-within i t h = go (drop i t) (length-drop i t)
     go (b ∷ bs) l = let w = escaped-in b bs in omega arith
 
 -- the text ends
-pub block-ends : (kept i : ℕ) (t : List ℕ) → length t ≤ i → blockFrom kept i t ≡ record { closed = false; size = i; fault = kept; state = BlockStringLiteral }
+pub block-ends : (i : ℕ) (t : List ℕ) → length t ≤ i → blockFrom i t ≡ record { closed = false; size = i; fault = errors.none; state = BlockStringLiteral }
 unfolding block
-block-ends kept i t h = rw (drop-of-length-le t h, add-zero)
+block-ends i t h = rw (drop-of-length-le t h, add-zero)

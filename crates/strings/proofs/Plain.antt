@@ -38,32 +38,32 @@ further-sum m n k r e =
     ap (λ size. record { closed = r .closed; size = size; fault = r .fault; state = r .state }) sizes
 
 -- from the front of a text
-plain-front : (kept : ℕ) (t : List ℕ)
-    → quotedFrom StringLiteral kept t ≡ further (run plainCharacter t) (quotedFrom StringLiteral kept (drop (run plainCharacter t) t))
+plain-front : (err : ℕ) (t : List ℕ)
+    → quotedFrom StringLiteral err t ≡ further (run plainCharacter t) (quotedFrom StringLiteral err (drop (run plainCharacter t) t))
 unfolding quotedFrom run laterOf
-plain-front kept [] = refl
-plain-front kept (b ∷ t) = go (plainCharacter b) refl (plain-front kept t)
+plain-front err [] = refl
+plain-front err (b ∷ t) = go (plainCharacter b) refl (plain-front err t)
   where
     go : (v : Bool) → plainCharacter b ≡ v
-        → quotedFrom StringLiteral kept t ≡ further (run plainCharacter t) (quotedFrom StringLiteral kept (drop (run plainCharacter t) t))
-        → quotedFrom StringLiteral kept (b ∷ t) ≡ further (pick v (suc (run plainCharacter t)) 0) (quotedFrom StringLiteral kept (drop (pick v (suc (run plainCharacter t)) 0) (b ∷ t)))
+        → quotedFrom StringLiteral err t ≡ further (run plainCharacter t) (quotedFrom StringLiteral err (drop (run plainCharacter t) t))
+        → quotedFrom StringLiteral err (b ∷ t) ≡ further (pick v (suc (run plainCharacter t)) 0) (quotedFrom StringLiteral err (drop (pick v (suc (run plainCharacter t)) 0) (b ∷ t)))
     go true e h = rw (plain-goes b e) (ap (further 1) h ∙ further-sum 1 (run plainCharacter t) _ _ (omega arith))
     go false e h = rw zero-add
 
 -- from i on, in any state
-pub plain-passes : (s : StringState) (kept i : ℕ) (t : List ℕ)
-    → further i (quotedFrom s kept (drop i t)) ≡ further (i + plainRun s (drop i t)) (quotedFrom s kept (drop (i + plainRun s (drop i t)) t))
+pub plain-passes : (s : StringState) (err i : ℕ) (t : List ℕ)
+    → further i (quotedFrom s err (drop i t)) ≡ further (i + plainRun s (drop i t)) (quotedFrom s err (drop (i + plainRun s (drop i t)) t))
 unfolding plainRun
-plain-passes StringLiteralStart kept i t = rw (add-zero i)
-plain-passes StringLiteral kept i t =
+plain-passes StringLiteralStart err i t = rw (add-zero i)
+plain-passes StringLiteral err i t =
     let n = run plainCharacter (drop i t) in
-    ap (further i) (plain-front kept (drop i t)) ∙ further-sum i n (i + n) _ refl ∙ rw (drop-drop n i t)
-plain-passes StringLiteralBackslash kept i t = rw (add-zero i)
-plain-passes (StringLiteralEscapedUnicode r v p) kept i t = rw (add-zero i)
-plain-passes (StringLiteralEscapedUnicodeVariable v d) kept i t = rw (add-zero i)
-plain-passes StringLiteralLeadSurrogate kept i t = rw (add-zero i)
-plain-passes StringLiteralLeadSurrogateBackslash kept i t = rw (add-zero i)
-plain-passes BlockStringLiteral kept i t = rw (add-zero i)
+    ap (further i) (plain-front err (drop i t)) ∙ further-sum i n (i + n) _ refl ∙ rw (drop-drop n i t)
+plain-passes StringLiteralBackslash err i t = rw (add-zero i)
+plain-passes (StringLiteralEscapedUnicode r v p) err i t = rw (add-zero i)
+plain-passes (StringLiteralEscapedUnicodeVariable v d) err i t = rw (add-zero i)
+plain-passes StringLiteralLeadSurrogate err i t = rw (add-zero i)
+plain-passes StringLiteralLeadSurrogateBackslash err i t = rw (add-zero i)
+plain-passes BlockStringLiteral err i t = rw (add-zero i)
 
 plain-fits : (s : StringState) (t : List ℕ) → plainRun s t ≤ length t
 unfolding plainRun

@@ -11,20 +11,20 @@ use Rattle.strings.specs.declared.StringState.{StringState}
 use Rattle.strings.specs.declared.StringStep.the-variants.{Go, Close}
 use Rattle.strings.specs.String.{stringStep, laterOf, further, quotedFrom}
 
-module _ (s : StringState) (kept i : ℕ) (t : List ℕ) where
+module _ (s : StringState) (err i : ℕ) (t : List ℕ) where
   -- the byte at i leads to another state
   pub quoted-goes : (next : StringState) (fault : ℕ) → i < length t → stringStep s (getD t i 0) ≡ Go next fault
-      → further i (quotedFrom s kept (drop i t)) ≡ further (i + 1) (quotedFrom next (laterOf kept fault) (drop (i + 1) t))
+      → further i (quotedFrom s err (drop i t)) ≡ further (i + 1) (quotedFrom next (laterOf err fault) (drop (i + 1) t))
   unfolding quotedFrom
   quoted-goes next fault h e = rw (drop-cons t i 0 h, e, add-assoc, add-one)
 
   -- the byte at i closes the string
   pub quoted-closes : (fault : ℕ) → i < length t → stringStep s (getD t i 0) ≡ Close fault
-      → further i (quotedFrom s kept (drop i t)) ≡ record { closed = true; size = i + 1; fault = laterOf kept fault; state = s }
+      → further i (quotedFrom s err (drop i t)) ≡ record { closed = true; size = i + 1; fault = laterOf err fault; state = s }
   unfolding quotedFrom
   quoted-closes fault h e = rw (drop-cons t i 0 h, e)
 
   -- the text ends
-  pub quoted-ends : length t ≤ i → further i (quotedFrom s kept (drop i t)) ≡ record { closed = false; size = i; fault = kept; state = s }
+  pub quoted-ends : length t ≤ i → further i (quotedFrom s err (drop i t)) ≡ record { closed = false; size = i; fault = err; state = s }
   unfolding quotedFrom
   quoted-ends h = rw (drop-of-length-le t h, add-zero)

@@ -11,6 +11,7 @@ use lib.ListN.{length, drop}
 use borrow.Author.Tests.{leb-true, leb-false, ne-eqb, lt-ltb}
 use Rattle.base.specs.Text.{pick, from}
 use Rattle.base.proofs.Tests.{by, from-above}
+use Rattle.codes.specs.Errors as errors
 use Rattle.utf8.specs.Encode.{scalar}
 use Rattle.rules.specs.Classes.{lineEnd, escapedCharacter, hexDigit, withDigit, leadSurrogate, trailSurrogate}
 use Rattle.rules.specs.Faults as faults
@@ -160,44 +161,44 @@ not-lone at-lead-escape = refl
 not-lone (at-trail p e) = refl
 
 -- the register of the code and the list of the definition
-same-fault : {f : ℕ} {fs : List ℕ} → SameFault f fs → (kept : ℕ) (gs : List ℕ) → last (laterOf kept f) gs ≡ last kept (fs ++ gs)
+same-fault : {f : ℕ} {fs : List ℕ} → SameFault f fs → (err : ℕ) (gs : List ℕ) → last (laterOf err f) gs ≡ last err (fs ++ gs)
 unfolding laterOf
-same-fault none kept gs = refl
-same-fault (one e) kept gs = rw e
+same-fault none err gs = refl
+same-fault (one e) err gs = rw e
 
 -- what the code finds is what is defined, and the text's end leaves the code `end`
-record Agrees (kept end : ℕ) (r : StringScan) (g : Scan) : Type 0 where
+record Agrees (err end : ℕ) (r : StringScan) (g : Scan) : Type 0 where
   closes : r .closed ≡ g .closed
   covers : r .size ≡ g .size
-  faults : r .fault ≡ last kept (g .faults)
+  faults : r .fault ≡ last err (g .faults)
   ends : r .closed ≡ false → endOf (r .state) ≡ end
 
 -- after related moves, if what follows agrees
-moved-agrees : (t : List ℕ) (kept : ℕ) (before : StringState) {x : StringStep} {m : Move} → SameMove x m
-    → ((kept : ℕ) (s : StringState) (s′ : State) → Same s s′ → Agrees kept 76 (quotedFrom s kept t) (scan s′ t))
-    → Agrees kept 76 (quotedBy x before kept (λ s kept. quotedFrom s kept t)) (moved m (λ s. scan s t))
-moved-agrees t kept before (goes {f} {fs} {s} {s′} e h) ih =
-    let a = ih (laterOf kept f) s s′ h in
-    record { closes = a .closes; covers = rw one-add (ap suc (a .covers)); faults = a .faults ∙ same-fault e kept (scan s′ t .faults); ends = a .ends }
-moved-agrees t kept before (closes e) ih = record { closes = refl; covers = refl; faults = rw append-nil at (same-fault e kept []); ends = λ z. true-false z }
+moved-agrees : (t : List ℕ) (err : ℕ) (before : StringState) {x : StringStep} {m : Move} → SameMove x m
+    → ((err : ℕ) (s : StringState) (s′ : State) → Same s s′ → Agrees err 76 (quotedFrom s err t) (scan s′ t))
+    → Agrees err 76 (quotedBy x before err (λ s err. quotedFrom s err t)) (moved m (λ s. scan s t))
+moved-agrees t err before (goes {f} {fs} {s} {s′} e h) ih =
+    let a = ih (laterOf err f) s s′ h in
+    record { closes = a .closes; covers = rw one-add (ap suc (a .covers)); faults = a .faults ∙ same-fault e err (scan s′ t .faults); ends = a .ends }
+moved-agrees t err before (closes e) ih = record { closes = refl; covers = refl; faults = rw append-nil at (same-fault e err []); ends = λ z. true-false z }
 
 -- from related states
-quoted-agrees : (t : List ℕ) (kept : ℕ) (s : StringState) (s′ : State) → Same s s′ → Agrees kept 76 (quotedFrom s kept t) (scan s′ t)
+quoted-agrees : (t : List ℕ) (err : ℕ) (s : StringState) (s′ : State) → Same s s′ → Agrees err 76 (quotedFrom s err t) (scan s′ t)
 unfolding quotedFrom scan
-quoted-agrees [] kept s s′ h = record { closes = refl; covers = refl; faults = refl; ends = λ e. not-lone h }
-quoted-agrees (b ∷ t) kept s s′ h = moved-agrees t kept s (moves h b) (quoted-agrees t)
+quoted-agrees [] err s s′ h = record { closes = refl; covers = refl; faults = refl; ends = λ e. not-lone h }
+quoted-agrees (b ∷ t) err s s′ h = moved-agrees t err s (moves h b) (quoted-agrees t)
 
 -- from the opening quote, which may be the last byte
-opened-agrees : (t : List ℕ) (kept : ℕ) → Agrees kept (pick (eqb (1 + length t) 1) 75 76) (quotedFrom begun kept t) (scan opened t)
+opened-agrees : (t : List ℕ) (err : ℕ) → Agrees err (pick (eqb (1 + length t) 1) 75 76) (quotedFrom begun err t) (scan opened t)
 unfolding quotedFrom scan stringStep
-opened-agrees [] kept = record { closes = refl; covers = refl; faults = refl; ends = λ e. refl }
-opened-agrees (b ∷ t) kept = rw (ne-eqb (1 + suc (length t)) 1 (λ z. omega arith)) (moved-agrees t kept begun (start-move b) (quoted-agrees t))
+opened-agrees [] err = record { closes = refl; covers = refl; faults = refl; ends = λ e. refl }
+opened-agrees (b ∷ t) err = rw (ne-eqb (1 + suc (length t)) 1 (λ z. omega arith)) (moved-agrees t err begun (start-move b) (quoted-agrees t))
 
 -- so a quoted string is scanned
-pub quoted-scans : (kept : ℕ) (t : List ℕ) → quotes t ≡ false → StringScans kept t (further 1 (quotedFrom begun kept (drop 1 t)))
+pub quoted-scans : (t : List ℕ) → quotes t ≡ false → StringScans t (further 1 (quotedFrom begun errors.none (drop 1 t)))
 unfolding stringScan
-quoted-scans kept t e =
-    let a = opened-agrees (drop 1 t) kept in
+quoted-scans t e =
+    let a = opened-agrees (drop 1 t) errors.none in
     record {
       closes = rw e (a .closes);
       covers = rw (e, one-add) (ap suc (a .covers));
@@ -206,9 +207,9 @@ quoted-scans kept t e =
     }
 
 -- and a block string
-pub block-scans : (kept : ℕ) (t : List ℕ) → quotes t ≡ true → StringScans kept t (blockOf kept t)
+pub block-scans : (t : List ℕ) → quotes t ≡ true → StringScans t (blockOf t)
 unfolding stringScan blockOf
-block-scans kept t e =
+block-scans t e =
     record {
       closes = rw e;
       covers = rw e;

@@ -18,8 +18,8 @@ pub record Alike (r q : StringScan) : Type 0 where
   pub end : r .closed ≡ false → endOf (r .state) ≡ endOf (q .state)
 
 -- two scans of the same text that meet the contract agree
-one-answer : (kept : ℕ) (t : List ℕ) (r q : StringScan) → StringScans kept t r → StringScans kept t q → Alike r q
-one-answer kept t r q a b =
+one-answer : (t : List ℕ) (r q : StringScan) → StringScans t r → StringScans t q → Alike r q
+one-answer t r q a b =
     let closed = a .closes ∙ sym (b .closes) in
     let size = a .covers ∙ sym (b .covers) in
     record {
@@ -31,4 +31,4 @@ one-answer kept t r q a b =
 
 -- over the contract itself
 pub string-unique : Unique 1 string-kinds.ps string-kinds.r string.Post (λ κs r q s z. Alike r q)
-string-unique κs a r q s z e f = one-answer _ _ r q e f
+string-unique κs a r q s z e f = one-answer _ r q e f

@@ -98,7 +98,7 @@ stringStep BlockStringLiteral b = inText b
 
 -- the later fault counts; 0 is none
 unfoldable pub laterOf : ℕ → ℕ → ℕ
-laterOf kept fault = pick (eqb fault errors.none) kept fault
+laterOf err fault = pick (eqb fault errors.none) err fault
 
 -- a scan that began n bytes earlier
 abbrev pub further : ℕ → StringScan → StringScan
@@ -108,15 +108,15 @@ further n r = record { closed = r .closed; size = n + r .size; fault = r .fault;
 abbrev pub begun : StringState
 begun = StringLiteralStart
 
--- what a step makes of a string in the state s, with the kept fault; k reads on
+-- what a step makes of a string in the state s, with its last fault so far; k reads on
 abbrev pub quotedBy : StringStep → StringState → ℕ → (StringState → ℕ → StringScan) → StringScan
-quotedBy (Go next fault) s kept k = further 1 (k next (laterOf kept fault))
-quotedBy (Close fault) s kept k = record { closed = true; size = 1; fault = laterOf kept fault; state = s }
+quotedBy (Go next fault) s err k = further 1 (k next (laterOf err fault))
+quotedBy (Close fault) s err k = record { closed = true; size = 1; fault = laterOf err fault; state = s }
 
--- a quoted string, read on from a state, with the kept fault
+-- a quoted string, read on from a state, with its last fault so far
 unfoldable pub quotedFrom : StringState → ℕ → List ℕ → StringScan
-quotedFrom s kept [] = record { closed = false; size = 0; fault = kept; state = s }
-quotedFrom s kept (b ∷ t) = quotedBy (stringStep s b) s kept (λ next fault. quotedFrom next fault t)
+quotedFrom s err [] = record { closed = false; size = 0; fault = err; state = s }
+quotedFrom s err (b ∷ t) = quotedBy (stringStep s b) s err (λ next fault. quotedFrom next fault t)
 
 -- how many bytes at the front leave a string in the state as it is, by being plain
 unfoldable pub plainRun : StringState → List ℕ → ℕ
@@ -129,16 +129,16 @@ plainRun StringLiteralLeadSurrogate t = 0
 plainRun StringLiteralLeadSurrogateBackslash t = 0
 plainRun BlockStringLiteral t = 0
 
--- a block string: it has no faults of its own
-unfoldable pub blockOf : ℕ → List ℕ → StringScan
-blockOf kept t = record { closed = blockScan t .closed; size = blockScan t .size; fault = kept; state = BlockStringLiteral }
+-- a block string: it has no faults
+unfoldable pub blockOf : List ℕ → StringScan
+blockOf t = record { closed = blockScan t .closed; size = blockScan t .size; fault = errors.none; state = BlockStringLiteral }
 
 -- what a scan of the string at the front of t says of it
-pub record StringScans (kept : ℕ) (t : List ℕ) (r : StringScan) : Type 0 where
+pub record StringScans (t : List ℕ) (r : StringScan) : Type 0 where
   -- whether it closes, and through which byte
   pub closes : r .closed ≡ stringScan t .closed
   pub covers : r .size ≡ stringScan t .size
-  -- its last fault, or the kept one
-  pub faults : r .fault ≡ last kept (stringScan t .faults)
+  -- its last fault, or none
+  pub faults : r .fault ≡ last errors.none (stringScan t .faults)
   -- at the text's end: error 11 for a lone quote, else 12
   pub ends : r .closed ≡ false → endOf (r .state) ≡ pick (eqb (r .size) 1) (codes.error errors.loneQuote) (codes.error errors.unterminatedString)

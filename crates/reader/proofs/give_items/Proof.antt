@@ -24,7 +24,7 @@ new-requires : tie.Need-new-requires Inv-loop μ-loop
 new-requires c κs = search needs
 
 loop-holds : tie.Need-loop-holds Inv-loop μ-loop
-loop-holds c = start (c .before .before .before .before .before .args .text .now) (c .before .before .before .before .before .args .tape .now) (c .before .before .before .before .before .args .limit) (c .before .capacity .result) (c .new .result) (c .before .before .before .before .before .pre) (c .before .capacity .ensures) (c .new .ensures .0) (c .new .ensures .1)
+loop-holds c = start (c .before .before .before .before .before .args .text .now) (c .before .before .before .before .before .args .tape .now) (c .before .before .before .before .before .args .limit) (c .before .capacity .result) (c .new .result) (c .before .before .before .before .before .pre) (c .before .capacity .ensures) (c .new .ensures)
 
 same-length : tie.Need-same-length Inv-loop μ-loop
 same-length c = length-tape itemAt item-pos item-le (c .before .before .before .before .before .before .before .args .text .now) (c .before .before .before .before .before .before .before .args .tape .now) (c .before .before .before .before .before .before .before .args .limit) (c .before .loop .tape) (c .before .loop .cursor .index) (c .before .loop .n) (c .before .loop .inv .state)
@@ -41,7 +41,7 @@ returns-2 c =
     (at-room itemAt item-pos item-le (c .before .before .before .before .before .before .before .before .args .text .now) (c .before .before .before .before .before .before .before .before .args .tape .now) (c .before .before .before .before .before .before .before .before .args .limit) (c .before .before .loop .tape) (c .before .before .loop .cursor .index) (c .before .before .loop .n) (c .before .before .loop .inv .state) (c .before .if1 .left) f, at-room-tape itemAt item-pos item-le (c .before .before .before .before .before .before .before .before .args .text .now) (c .before .before .before .before .before .before .before .before .args .tape .now) (c .before .before .before .before .before .before .before .before .args .limit) (c .before .before .loop .tape) (c .before .before .loop .cursor .index) (c .before .before .loop .n) (c .before .before .loop .inv .state) (c .before .if1 .left) f)
 
 advance-requires : tie.Need-advance-requires Inv-loop μ-loop
-advance-requires c κs = c .before .before .loop .inv .clear
+advance-requires c κs = c .before .before .loop .inv .state .within
 
 code-of-requires : tie.Need-code-of-requires Inv-loop μ-loop
 code-of-requires c κs = code-fits (c .before .before .before .before .before .before .before .before .before .args .text .now) (c .before .before .before .before .before .before .before .before .before .args .tape .now) (c .before .before .before .before .before .before .before .before .before .args .limit) (c .before .before .before .before .before .capacity .result) (c .before .before .before .loop .tape) (c .before .before .before .loop .cursor) (c .before .before .before .loop .n) (c .before .before .before .loop .inv) (c .advance .result) (c .advance .ensures)
@@ -67,8 +67,8 @@ returns-3 c = (given-all (c .before .before .before .before .before .before .bef
 
 loop-less : tie.Need-loop-less Inv-loop μ-loop
 loop-less c =
-    let w = c .before .before .before .before .before .before .before .before .before .before .before .loop .inv .clear .within in
-    let g = again (c .before .before .before .before .before .before .before .before .before .before .before .before .before .before .before .before .before .args .text .now) (c .before .before .before .before .before .before .before .before .before .before .before .before .before .before .before .before .before .args .tape .now) (c .before .before .before .before .before .before .before .before .before .before .before .before .before .before .before .before .before .args .limit) (c .before .before .before .before .before .before .before .before .before .before .before .before .before .capacity .result) (c .before .before .before .before .before .before .before .before .before .before .before .loop .tape) (c .before .before .before .before .before .before .before .before .before .before .before .loop .cursor) (c .before .before .before .before .before .before .before .before .before .before .before .loop .n) (c .before .before .before .before .before .before .before .before .before .before .before .loop .inv) (c .before .before .before .before .before .before .before .before .advance .result) (c .before .before .before .before .before .before .before .before .advance .ensures) (c .before .before .before .before .before .before .before .code-of .result) (c .before .before .before .before .before .before .before .code-of .ensures) (c .before .before .before .before .before .before .size-of .result) (c .before .before .before .before .before .before .size-of .ensures) (c .before .before .before .before .before .before .before .before .before .before .if1 .left) (c .before .before .before .before .before .before .before .before .before .if2 .left) (c .before .if3 .left) .clear .within in
+    let w = c .before .before .before .before .before .before .before .before .before .before .before .loop .inv .state .within in
+    let g = again (c .before .before .before .before .before .before .before .before .before .before .before .before .before .before .before .before .before .args .text .now) (c .before .before .before .before .before .before .before .before .before .before .before .before .before .before .before .before .before .args .tape .now) (c .before .before .before .before .before .before .before .before .before .before .before .before .before .before .before .before .before .args .limit) (c .before .before .before .before .before .before .before .before .before .before .before .before .before .capacity .result) (c .before .before .before .before .before .before .before .before .before .before .before .loop .tape) (c .before .before .before .before .before .before .before .before .before .before .before .loop .cursor) (c .before .before .before .before .before .before .before .before .before .before .before .loop .n) (c .before .before .before .before .before .before .before .before .before .before .before .loop .inv) (c .before .before .before .before .before .before .before .before .advance .result) (c .before .before .before .before .before .before .before .before .advance .ensures) (c .before .before .before .before .before .before .before .code-of .result) (c .before .before .before .before .before .before .before .code-of .ensures) (c .before .before .before .before .before .before .size-of .result) (c .before .before .before .before .before .before .size-of .ensures) (c .before .before .before .before .before .before .before .before .before .before .if1 .left) (c .before .before .before .before .before .before .before .before .before .if2 .left) (c .before .if3 .left) .state .within in
     omega (arith, further (c .before .before .before .before .before .before .before .before .before .before .before .before .before .before .before .before .before .args .text .now) (c .before .before .before .before .before .before .before .before .before .before .before .before .before .before .before .before .before .args .tape .now) (c .before .before .before .before .before .before .before .before .before .before .before .before .before .before .before .before .before .args .limit) (c .before .before .before .before .before .before .before .before .before .before .before .before .before .capacity .result) (c .before .before .before .before .before .before .before .before .before .before .before .loop .tape) (c .before .before .before .before .before .before .before .before .before .before .before .loop .cursor) (c .before .before .before .before .before .before .before .before .before .before .before .loop .n) (c .before .before .before .before .before .before .before .before .before .before .before .loop .inv) (c .before .before .before .before .before .before .before .before .advance .result) (c .before .before .before .before .before .before .before .before .advance .ensures) (c .before .before .before .before .before .before .before .code-of .result) (c .before .before .before .before .before .before .before .code-of .ensures) (c .before .before .before .before .before .before .size-of .result) (c .before .before .before .before .before .before .size-of .ensures) (c .before .before .before .before .before .before .before .before .before .before .if1 .left) (c .before .before .before .before .before .before .before .before .before .if2 .left) (c .before .if3 .left))
 
 loop-again : tie.Need-loop-again Inv-loop μ-loop

@@ -10,26 +10,26 @@ use Rattle.strings.proofs.block_string_literal.Statement.{statement}
 use Rattle.strings.proofs.block_string_literal.Tie as tie
 
 abbrev Inv-loop : tie.InvT-loop
-Inv-loop rest kept i₀ i = (i ≤ length rest) × (blockOf kept rest ≡ blockFrom kept i rest)
+Inv-loop rest i₀ i = (i ≤ length rest) × (blockOf rest ≡ blockFrom i rest)
 
 abbrev μ-loop : tie.MeasureT-loop
-μ-loop rest kept i₀ i = length rest - i
+μ-loop rest i₀ i = length rest - i
 
 loop-holds : tie.Need-loop-holds Inv-loop μ-loop
-loop-holds c = let a = c .before .args in (c .before .pre, block-begins (a .kept) (a .rest .now))
+loop-holds c = let a = c .before .args in (c .before .pre, block-begins (a .rest .now))
 
 quotes-at-requires : tie.Need-quotes-at-requires Inv-loop μ-loop
 quotes-at-requires c κs = search needs
 
-add-t7 : tie.Need-add-t7 Inv-loop μ-loop
-add-t7 c = search needs
+add-t6 : tie.Need-add-t6 Inv-loop μ-loop
+add-t6 c = search needs
 
 returns : tie.Need-returns Inv-loop μ-loop
 returns c =
     let at-test = c .before .before in
     let at-loop = at-test .before in
     let a = at-loop .before .before .args in
-    sym (at-loop .loop .inv .1 ∙ block-closes (a .kept) (at-loop .loop .i) (a .rest .now) (at-test .loop-test .taken) (sym (c .before .quotes-at .ensures) ∙ c .if1 .taken))
+    sym (at-loop .loop .inv .1 ∙ block-closes (at-loop .loop .i) (a .rest .now) (at-test .loop-test .taken) (sym (c .before .quotes-at .ensures) ∙ c .if1 .taken))
 
 escape-at-requires : tie.Need-escape-at-requires Inv-loop μ-loop
 escape-at-requires c κs = search needs
@@ -57,14 +57,14 @@ loop-again c =
     let at-test = c .before .before .before in
     let at-loop = at-test .before in
     let a = at-loop .before .before .args in
-    let turn = block-turn (a .kept) (at-loop .loop .i) (a .rest .now) (at-test .loop-test .taken) (sym (c .before .before .quotes-at .ensures) ∙ c .before .if1 .left) in
+    let turn = block-turn (at-loop .loop .i) (a .rest .now) (at-test .loop-test .taken) (sym (c .before .before .quotes-at .ensures) ∙ c .before .if1 .left) in
     (within c, at-loop .loop .inv .1 ∙ turn ∙ rw (c .escape-at .ensures))
 
 returns-2 : tie.Need-returns-2 Inv-loop μ-loop
 returns-2 c =
     let at-loop = c .before in
     let a = at-loop .before .before .args in
-    sym (at-loop .loop .inv .1 ∙ block-ends (a .kept) (at-loop .loop .i) (a .rest .now) (c .loop-test .left))
+    sym (at-loop .loop .inv .1 ∙ block-ends (at-loop .loop .i) (a .rest .now) (c .loop-test .left))
 
 pub block-string-literal-spec : {M : Type 1} → statement M
 block-string-literal-spec =
@@ -74,7 +74,7 @@ block-string-literal-spec =
     μ-loop
     loop-holds
     quotes-at-requires
-    add-t7
+    add-t6
     returns
     escape-at-requires
     add-i

@@ -16,7 +16,7 @@ block-string-literal-requires c κs =
 returns : tie.Need-returns
 returns c =
     let a = c .before .before .before .before .args in
-    rw (c .block-string-literal .ensures) (block-scans (a .kept) (a .rest .now) (sym (c .before .before .quotes-at .ensures) ∙ c .before .if1 .taken))
+    rw (c .block-string-literal .ensures) (block-scans (a .rest .now) (sym (c .before .before .quotes-at .ensures) ∙ c .before .if1 .taken))
 
 string-literal-requires : tie.Need-string-literal-requires
 string-literal-requires c κs = search needs
@@ -24,7 +24,7 @@ string-literal-requires c κs = search needs
 returns-2 : tie.Need-returns-2
 returns-2 c =
     let a = c .before .before .before .before .args in
-    rw (c .string-literal .ensures) (quoted-scans (a .kept) (a .rest .now) (sym (c .before .before .quotes-at .ensures) ∙ c .before .if1 .left))
+    rw (c .string-literal .ensures) (quoted-scans (a .rest .now) (sym (c .before .before .quotes-at .ensures) ∙ c .before .if1 .left))
 
 pub string-spec : {M : Type 1} → statement M
 string-spec =

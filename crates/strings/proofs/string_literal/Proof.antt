@@ -5,6 +5,7 @@ use Prim.Native.Nat.{_+_, _-_, _≤_}
 use native.Mathlib.Omega.{arith}
 use lib.ListN.{length, drop}
 use borrow.Author.Needs.{needs}
+use Rattle.codes.specs.Errors as errors
 use Rattle.strings.specs.String.{laterOf, further, begun, quotedFrom}
 use Rattle.strings.proofs.Quoted.{quoted-goes, quoted-closes, quoted-ends}
 use Rattle.strings.proofs.Plain.{plain-passes, plain-within}
@@ -12,11 +13,11 @@ use Rattle.strings.proofs.string_literal.Statement.{statement}
 use Rattle.strings.proofs.string_literal.Tie as tie
 
 abbrev Inv-loop : tie.InvT-loop
-Inv-loop rest kept state₀ err₀ i₀ state err i =
-    (i ≤ length rest) × (further 1 (quotedFrom begun kept (drop 1 rest)) ≡ further i (quotedFrom state err (drop i rest)))
+Inv-loop rest state₀ err₀ i₀ state err i =
+    (i ≤ length rest) × (further 1 (quotedFrom begun errors.none (drop 1 rest)) ≡ further i (quotedFrom state err (drop i rest)))
 
 abbrev μ-loop : tie.MeasureT-loop
-μ-loop rest kept state₀ err₀ i₀ state err i = length rest - i
+μ-loop rest state₀ err₀ i₀ state err i = length rest - i
 
 loop-holds : tie.Need-loop-holds Inv-loop μ-loop
 loop-holds c = (c .before .pre, refl)
@@ -67,8 +68,8 @@ loop-again c =
 enum-known-fault : tie.Need-enum-known-fault Inv-loop μ-loop
 enum-known-fault c = search needs
 
-add-t15 : tie.Need-add-t15 Inv-loop μ-loop
-add-t15 c = search needs
+add-t14 : tie.Need-add-t14 Inv-loop μ-loop
+add-t14 c = search needs
 
 later-requires-2 : tie.Need-later-requires-2 Inv-loop μ-loop
 later-requires-2 c κs = search needs
@@ -106,7 +107,7 @@ string-literal-spec =
     loop-less
     loop-again
     enum-known-fault
-    add-t15
+    add-t14
     later-requires-2
     returns
     returns-2)

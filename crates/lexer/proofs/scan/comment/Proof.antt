@@ -3,7 +3,7 @@ use mathlib.Core.Path.{sym, ap, _∙_}
 use Prim.Native.Nat.{ℕ, _+_}
 use native.Mathlib.Omega.{arith}
 use Rattle.base.specs.Item.{lexeme}
-use Rattle.lexer.specs.Scan.{lexedOf}
+use Rattle.lexer.specs.Lexed.{lexedOf}
 use Rattle.rules.specs.Classes.{notLineEnd}
 use Rattle.lexer.proofs.Fronts.{comment-item, tail-run, tail-fits}
 use borrow.Author.Needs.{needs}
@@ -22,17 +22,17 @@ part-line-run-end c = search needs
 line-run-requires : tie.Need-line-run-requires
 line-run-requires c κs = search needs
 
-add-ends : tie.Need-add-ends
-add-ends c = omega (arith, tail-fits notLineEnd (c .before .before .before .args .rest .now) (c .line-run .result) (c .before .before .before .pre .0) (c .line-run .ensures))
-
-ends-requires : tie.Need-ends-requires
-ends-requires c κs = search needs
+add-size : tie.Need-add-size
+add-size c =
+    let start = c .before .before .before in
+    omega (arith, tail-fits notLineEnd (start .args .rest .now) (c .line-run .result) (start .pre .0) (c .line-run .ensures))
 
 returns : tie.Need-returns
+unfolding lexedOf
 returns c =
-    c .ends .ensures
-    ∙ ap (λ (n : ℕ). lexedOf (lexeme 2 (1 + n))) (tail-run notLineEnd (c .before .before .before .before .args .rest .now) (c .before .line-run .result) (c .before .before .before .before .pre .0) (c .before .line-run .ensures))
-    ∙ sym (ap lexedOf (comment-item (c .before .before .before .before .args .rest .now) (c .before .before .before .before .pre .0) (c .before .before .before .before .pre .1)))
+    let start = c .before .before .before in
+    ap (λ (n : ℕ). lexedOf (lexeme 2 (1 + n))) (tail-run notLineEnd (start .args .rest .now) (c .line-run .result) (start .pre .0) (c .line-run .ensures))
+    ∙ sym (ap lexedOf (comment-item (start .args .rest .now) (start .pre .0) (start .pre .1)))
 
 pub comment-spec : {M : Type 1} → statement M
 comment-spec =
@@ -42,6 +42,5 @@ comment-spec =
     part-line-run-start
     part-line-run-end
     line-run-requires
-    add-ends
-    ends-requires
+    add-size
     returns)

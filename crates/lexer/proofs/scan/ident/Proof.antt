@@ -3,7 +3,7 @@ use mathlib.Core.Path.{sym, ap, _∙_}
 use Prim.Native.Nat.{ℕ, _+_}
 use native.Mathlib.Omega.{arith}
 use Rattle.base.specs.Item.{lexeme}
-use Rattle.lexer.specs.Scan.{lexedOf}
+use Rattle.lexer.specs.Lexed.{lexedOf}
 use Rattle.rules.specs.Classes.{nameContinue}
 use Rattle.lexer.proofs.Fronts.{name-item, tail-run, tail-fits}
 use borrow.Author.Needs.{needs}
@@ -22,17 +22,17 @@ part-name-run-end c = search needs
 name-run-requires : tie.Need-name-run-requires
 name-run-requires c κs = search needs
 
-add-ends : tie.Need-add-ends
-add-ends c = omega (arith, tail-fits nameContinue (c .before .before .before .args .rest .now) (c .name-run .result) (c .before .before .before .pre .0) (c .name-run .ensures))
-
-ends-requires : tie.Need-ends-requires
-ends-requires c κs = search needs
+add-size : tie.Need-add-size
+add-size c =
+    let start = c .before .before .before in
+    omega (arith, tail-fits nameContinue (start .args .rest .now) (c .name-run .result) (start .pre .0) (c .name-run .ensures))
 
 returns : tie.Need-returns
+unfolding lexedOf
 returns c =
-    c .ends .ensures
-    ∙ ap (λ (n : ℕ). lexedOf (lexeme 18 (1 + n))) (tail-run nameContinue (c .before .before .before .before .args .rest .now) (c .before .name-run .result) (c .before .before .before .before .pre .0) (c .before .name-run .ensures))
-    ∙ sym (ap lexedOf (name-item (c .before .before .before .before .args .rest .now) (c .before .before .before .before .pre .0) (c .before .before .before .before .pre .1)))
+    let start = c .before .before .before in
+    ap (λ (n : ℕ). lexedOf (lexeme 18 (1 + n))) (tail-run nameContinue (start .args .rest .now) (c .name-run .result) (start .pre .0) (c .name-run .ensures))
+    ∙ sym (ap lexedOf (name-item (start .args .rest .now) (start .pre .0) (start .pre .1)))
 
 pub ident-spec : {M : Type 1} → statement M
 ident-spec =
@@ -42,6 +42,5 @@ ident-spec =
     part-name-run-start
     part-name-run-end
     name-run-requires
-    add-ends
-    ends-requires
+    add-size
     returns)

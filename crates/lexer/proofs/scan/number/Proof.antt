@@ -1,8 +1,8 @@
 -- `lexer::scan::number` meets its contract, case by case. Assumes nothing.
 use mathlib.Core.Path.{sym, ap, _∙_, subst}
 use Rattle.numbers.specs.Number.{meaning, IsToken}
-use Rattle.lexer.specs.Scan.{lexedOf}
-use Rattle.lexer.proofs.Lexed.{token-lexed, error-lexed}
+use Rattle.lexer.specs.Lexed.{lexedOf}
+use Rattle.lexer.proofs.Found.{token-lexed, error-lexed}
 use borrow.Author.Needs.{needs}
 use Rattle.lexer.proofs.scan.number.Statement.{statement}
 use Rattle.lexer.proofs.scan.number.Tie as tie
@@ -19,6 +19,9 @@ enum-known-fault c = search needs
 enum-known-state : tie.Need-enum-known-state
 enum-known-state c = search needs
 
+eof-number-requires : tie.Need-eof-number-requires
+eof-number-requires c κs = search needs
+
 returns : tie.Need-returns
 returns c =
     let e = c .before .kind .given .1 in
@@ -32,8 +35,8 @@ returns-2 c =
 
 returns-3 : tie.Need-returns-3
 returns-3 c =
-    let n = c .before .before .before .number in
-    ap lexedOf (sym (ap meaning (c .before .state .given .1)) ∙ n .ensures .0)
+    let n = c .before .before .before .before .number in
+    c .eof-number .ensures ∙ ap lexedOf (sym (ap meaning (c .before .before .state .given .1)) ∙ n .ensures .0)
 
 pub number-spec : {M : Type 1} → statement M
 number-spec =
@@ -43,6 +46,7 @@ number-spec =
     enum-known-kind
     enum-known-fault
     enum-known-state
+    eof-number-requires
     returns
     returns-2
     returns-3)

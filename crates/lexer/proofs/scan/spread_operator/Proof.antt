@@ -7,7 +7,7 @@ use lib.ListN.{drop, length-drop}
 use Rattle.utf8.proofs.Characters.{size-le}
 use Rattle.lexer.proofs.Fronts.{dot-end, dot-other, dots-end, three-dots, dots-other, tail-size}
 use borrow.Author.Needs.{needs}
-use Rattle.lexer.specs.Scan.{lexedOf}
+use Rattle.lexer.specs.Lexed.{lexedOf}
 use Rattle.lexer.proofs.scan.spread_operator.Statement.{statement}
 use Rattle.lexer.proofs.scan.spread_operator.Tie as tie
 
@@ -30,8 +30,8 @@ part-size-at-end c = search needs
 size-at-requires : tie.Need-size-at-requires
 size-at-requires c κs = search needs
 
-add-t12 : tie.Need-add-t12
-add-t12 c =
+add-size : tie.Need-add-size
+add-size c =
     let l = size-le (drop 1 (c .before .before .before .before .before .before .args .rest .now)) in
     let d = length-drop 1 (c .before .before .before .before .before .before .args .rest .now) in
     omega (arith, tail-size (c .before .before .before .before .before .before .args .rest .now) (c .size-at .result) (c .before .before .before .before .before .before .pre .0) (c .size-at .ensures))
@@ -67,7 +67,7 @@ spread-operator-spec =
     part-size-at-start
     part-size-at-end
     size-at-requires
-    add-t12
+    add-size
     returns-2
     returns-3
     shared-slice-read-if4

@@ -1,0 +1,15 @@
+-- `lexer::ends::done` meets its contract. Assumes nothing.
+use native.Mathlib.Omega.{arith}
+use borrow.Author.Tests.{eq-eqb, ne-eqb}
+use Rattle.lexer.proofs.Found.{token-lexed, error-lexed}
+use Rattle.lexer.proofs.ends.done.Statement.{statement}
+use Rattle.lexer.proofs.ends.done.Tie as tie
+
+returns : tie.Need-returns
+returns c = rw (ne-eqb _ 0 (c .if1 .taken)) (error-lexed _ _)
+
+returns-2 : tie.Need-returns-2
+returns-2 c = rw (eq-eqb _ 0 (c .if1 .left)) (token-lexed 19 _ (omega arith))
+
+pub done-spec : {M : Type 1} → statement M
+done-spec = tie.close (tie.spec returns returns-2)
