@@ -13,10 +13,10 @@ use Rattle.rules.specs.Items.{errorAt, itemAt}
 use Rattle.rules.proofs.Codes.{rule-code}
 use Rattle.rules.proofs.Items.{item-sound, token-item}
 use Rattle.lexer.specs.declared.cursor.Cursor.{Cursor}
-use Rattle.lexer.specs.declared.lexed.Lexed.the-variants.{Token, Error}
-use Rattle.lexer.specs.Lexed.{lexedOf, codeOf}
+use Rattle.base.specs.declared.lexed.Lexed.the-variants.{Token, Error}
+use Rattle.base.specs.Lexed.{lexedOf, codeOf}
 use Rattle.lexer.specs.Cursor.{advancedOf}
-use Rattle.lexer.proofs.Found.{token-lexed, code-lexed}
+use Rattle.base.proofs.Found.{token-lexed, code-lexed}
 
 -- where a rule matches at the cursor, the item is that token, whatever the text holds before it
 pub own-token : (t : List ℕ) (c : Cursor) {k n : ℕ} → Rule k (drop (c .index) t) n → advancedOf t c .item ≡ Token k n

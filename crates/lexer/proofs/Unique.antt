@@ -3,24 +3,12 @@ use Prim.Native.Nat.{ℕ}
 use mathlib.Core.Path.{_≡_, sym, ap, _∙_}
 use Rattle.base.proofs.Results.{Unique}
 use Rattle.lexer.specs.declared.cursor.Cursor.{Cursor}
-use Rattle.lexer.proofs.lexed.code_of.Kinds as code-of-kinds
-use Rattle.lexer.proofs.lexed.code_of.Reads as code-of
-use Rattle.lexer.proofs.lexed.size_of.Kinds as size-of-kinds
-use Rattle.lexer.proofs.lexed.size_of.Reads as size-of
 use Rattle.lexer.proofs.scan.scan.Kinds as scan-kinds
 use Rattle.lexer.proofs.scan.scan.Reads as scan
 use Rattle.lexer.proofs.cursor.Cursor.new.Kinds as new-kinds
 use Rattle.lexer.proofs.cursor.Cursor.new.Reads as new
 use Rattle.lexer.proofs.cursor.Cursor.advance.Kinds as advance-kinds
 use Rattle.lexer.proofs.cursor.Cursor.advance.Reads as advance
-
--- the code
-pub code-of-unique : Unique 0 code-of-kinds.ps code-of-kinds.r code-of.Post (λ κs r q s z. r ≡ q)
-code-of-unique κs a r q s z e f = e ∙ sym f
-
--- the size
-pub size-of-unique : Unique 0 size-of-kinds.ps size-of-kinds.r size-of.Post (λ κs r q s z. r ≡ q)
-size-of-unique κs a r q s z e f = e ∙ sym f
 
 -- what stands at the front of a suffix
 pub scan-unique : Unique 1 scan-kinds.ps scan-kinds.r scan.Post (λ κs r q s z. r ≡ q)

@@ -3,9 +3,9 @@ use Prim.Native.Nat.{ℕ, _+_}
 use mathlib.Core.List.{List}
 use lib.ListN.{drop}
 use Rattle.rules.specs.Items.{itemAt}
+use Rattle.base.specs.Lexed.{lexedOf}
 use Rattle.lexer.specs.declared.cursor.Cursor.{Cursor}
 use Rattle.lexer.specs.declared.cursor.Advanced.{Advanced}
-use Rattle.lexer.specs.Lexed.{lexedOf}
 
 -- the item at the cursor, and the cursor behind it
 unfoldable pub advancedOf : List ℕ → Cursor → Advanced

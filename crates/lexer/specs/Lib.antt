@@ -1,3 +1,2 @@
 -- What the contracts of the lexer cite.
-pub mod Lexed
 pub mod Cursor

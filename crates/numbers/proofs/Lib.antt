@@ -2,4 +2,3 @@
 pub mod Machine
 pub mod Turn
 pub mod Unique
-pub mod Tokens

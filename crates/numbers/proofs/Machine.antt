@@ -24,7 +24,7 @@ use Rattle.numbers.specs.declared.NumberState.{NumberState}
 use Rattle.numbers.specs.declared.NumberState.the-variants as state
 use Rattle.numbers.specs.declared.NumberStep.{NumberStep}
 use Rattle.numbers.specs.declared.NumberStep.the-variants.{Go, Done, Error}
-use Rattle.numbers.specs.Number.{endOf, afterInteger, afterFloat, digitStep, otherStep, stepOf, kindOf, scanBy, scanFrom}
+use Rattle.numbers.specs.Number.{endOf, afterInteger, afterFloat, digitStep, otherStep, stepOf, scanBy, scanFrom}
 
 -- a byte of ASCII is a character of its own
 low-one : (b : ℕ) (r : List ℕ) → b ≤ 127 → size (b ∷ r) ≡ 1
@@ -79,7 +79,7 @@ data Form : NumberState → List ℕ → Type 0 where
 -- or an error covers p and the character at b
 data Right (s : NumberState) (p : List ℕ) (b : ℕ) (r : List ℕ) : NumberStep → Type 0 where
   goes : {next : NumberState} → Form next (p ++ (b ∷ [])) → Right s p b r (Go next)
-  ends : Stands (kindOf s) (p ++ (b ∷ r)) (length p) → Right s p b r Done
+  ends : Stands (endOf s) (p ++ (b ∷ r)) (length p) → Right s p b r Done
   fails : {k : ℕ} → Fault k (p ++ (b ∷ r)) (length p + size (b ∷ r)) → Right s p b r (Error k)
 
 -- by a test
@@ -97,7 +97,7 @@ moved : {k n m : ℕ} {t u : List ℕ} → u ≡ t → m ≡ n → Fault k t n �
 moved e l h = rw (e, l) h
 
 -- after an integer part
-after-integer : (s : NumberState) (i : List ℕ) (b : ℕ) (r : List ℕ) → kindOf s ≡ 20 → IntegerPart i → digit b ≡ false → Right s i b r (afterInteger b)
+after-integer : (s : NumberState) (i : List ℕ) (b : ℕ) (r : List ℕ) → endOf s ≡ 20 → IntegerPart i → digit b ≡ false → Right s i b r (afterInteger b)
 unfolding afterInteger afterNumber
 after-integer s i b r k h d =
     tested (eqb b 46) (λ p. goes (rw (eqb-true b 46 p) (decimalPoint i h)))
@@ -106,7 +106,7 @@ after-integer s i b r k h d =
     (λ n. ends (rw k (token (int i (b ∷ r) h (rw (d, p, n))))))))
 
 -- after a fraction or an exponent, where `.` and a name start are error 5
-after-float : (s : NumberState) (p : List ℕ) (b : ℕ) (r : List ℕ) → kindOf s ≡ 21 → FloatValue p → digit b ≡ false
+after-float : (s : NumberState) (p : List ℕ) (b : ℕ) (r : List ℕ) → endOf s ≡ 21 → FloatValue p → digit b ≡ false
     → (pointOrName b ≡ true → Fault 5 (p ++ (b ∷ r)) (length p + 1)) → Right s p b r (afterFloat b)
 unfolding afterFloat afterNumber pointOrName
 after-float s p b r k h d w =
@@ -145,7 +145,7 @@ digit-right b r (exponentDigit i f e h g k) d = goes (led (regroup i f e (b ∷ 
 
 -- and each on another byte
 other-right : {s : NumberState} {p : List ℕ} (b : ℕ) (r : List ℕ) → Form s p → digit b ≡ false → Right s p b r (otherStep s b)
-unfolding otherStep kindOf sign
+unfolding otherStep sign
 other-right b r minusSign d = fails (Errors.minus (b ∷ r) d)
 other-right b r (leadingZero {a = a} h) d = after-integer state.LeadingZero a b r refl (leading-integer h) d
 other-right b r (positive {b = x} {a = a} n h) d = after-integer state.IntegerPart (x ∷ a) b r refl (unsigned (Rules.positive n h)) d

@@ -12,7 +12,7 @@ use Rattle.utf8.specs.Sequence.{size}
 use Rattle.utf8.proofs.Characters.{size-le}
 use Rattle.numbers.specs.declared.NumberState.{NumberState}
 use Rattle.numbers.specs.declared.NumberStep.the-variants.{Go, Done, Error}
-use Rattle.numbers.specs.Number.{endOf, stepOf, kindOf, scanBy, scanFrom}
+use Rattle.numbers.specs.Number.{endOf, stepOf, scanBy, scanFrom}
 
 -- the loop stands at i in the state s: what was to be read from the state `start` after one byte is what is to be read from here
 pub record Passed (t : List ℕ) (start s : NumberState) (i : ℕ) : Type 0 where
@@ -34,8 +34,8 @@ module _ (t : List ℕ) (start s : NumberState) (i : ℕ) (p : Passed t start s 
   turn next l e = record { fits = omega arith; same = rw e at (next-byte l) }
 
   -- the number ends before it
-  pub done : (k : ℕ) → i < length t → stepOf s (getD t i 0) ≡ Done → k ≡ kindOf s → lexeme k i ≡ scanFrom start 1 (drop 1 t)
-  done k l e q = rw q (sym (rw e at (next-byte l)))
+  pub done : i < length t → stepOf s (getD t i 0) ≡ Done → lexeme (endOf s) i ≡ scanFrom start 1 (drop 1 t)
+  done l e = sym (rw e at (next-byte l))
 
   -- the text ends
   pub ended : length t ≤ i → lexeme (endOf s) i ≡ scanFrom start 1 (drop 1 t)

@@ -1,6 +1,6 @@
--- What the answers mean, and the machine of numbers that the code runs: proved to give the items of document 01, the machine need not be
+-- The machine of numbers that the code runs: proved to give the items of document 01, the machine need not be
 -- believed. Assumes nothing: these are definitions.
-use Prim.Native.Nat.{ℕ, suc, _+_, _<_}
+use Prim.Native.Nat.{ℕ, suc, _+_}
 use mathlib.Core.List.{List, [], _∷_}
 use lib.Dec.{eqb}
 use Rattle.base.specs.Text.{pick}
@@ -13,10 +13,8 @@ use Rattle.numbers.specs.declared.NumberState.{NumberState}
 use Rattle.numbers.specs.declared.NumberState.the-variants.{MinusSign, LeadingZero, IntegerPart, DecimalPoint, FractionalPart, ExponentIndicator, ExponentSign, ExponentDigit}
 use Rattle.numbers.specs.declared.NumberStep.{NumberStep}
 use Rattle.numbers.specs.declared.NumberStep.the-variants.{Go, Done, Error}
-use Rattle.numbers.specs.declared.NumberScan.{NumberScan}
-use Rattle.numbers.specs.declared.NumberScan.the-variants as scan
 
--- the code of the item that the text's end leaves of a number: 8 after `-`, 9 where a float lacks a digit
+-- the code of the item that a number is which ends in a state, with the text or before a byte: 8 after `-`, 9 where a float lacks a digit
 abbrev pub endOf : NumberState → ℕ
 endOf MinusSign = codes.error errors.minusWithoutDigit
 endOf LeadingZero = codes.int
@@ -26,18 +24,6 @@ endOf FractionalPart = codes.float
 endOf ExponentIndicator = codes.error errors.endsInsideFloat
 endOf ExponentSign = codes.error errors.endsInsideFloat
 endOf ExponentDigit = codes.float
-
--- the item that was found
-abbrev pub meaning : NumberScan → Lexeme
-meaning (scan.Done kind size) = lexeme kind size
-meaning (scan.Error fault size) = lexeme (codes.error fault) size
-meaning (scan.Eof state size) = lexeme (endOf state) size
-
--- what ends before a byte is a token, not an error
-abbrev pub IsToken : NumberScan → Type 0
-IsToken (scan.Done kind size) = kind < codes.errors
-IsToken (scan.Error fault size) = Unit {0}
-IsToken (scan.Eof state size) = Unit {0}
 
 -- after the integer part, of which the byte does not continue the digits
 unfoldable pub afterInteger : ℕ → NumberStep
@@ -75,21 +61,10 @@ otherStep ExponentDigit b = afterFloat b
 unfoldable pub stepOf : NumberState → ℕ → NumberStep
 stepOf s b = pick (digit b) (digitStep s b) (otherStep s b)
 
--- the code of a number that ends before a byte
-unfoldable pub kindOf : NumberState → ℕ
-kindOf MinusSign = codes.int
-kindOf LeadingZero = codes.int
-kindOf IntegerPart = codes.int
-kindOf DecimalPoint = codes.int
-kindOf FractionalPart = codes.float
-kindOf ExponentIndicator = codes.int
-kindOf ExponentSign = codes.int
-kindOf ExponentDigit = codes.float
-
 -- what a step makes of a number of which n bytes led to the state s, where r follows them; k reads on
 abbrev pub scanBy : NumberStep → NumberState → (n : ℕ) → List ℕ → (NumberState → Lexeme) → Lexeme
 scanBy (Go next) s n r k = k next
-scanBy Done s n r k = lexeme (kindOf s) n
+scanBy Done s n r k = lexeme (endOf s) n
 scanBy (Error fault) s n r k = lexeme (codes.error fault) (n + utf8.size r)
 
 -- the item of a number of which n bytes led to the state s, and what follows them

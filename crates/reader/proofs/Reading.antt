@@ -11,9 +11,9 @@ use Rattle.rules.proofs.Bounds.{item-pos, item-le}
 use Rattle.rules.proofs.Codes.{code-at}
 use Rattle.lexer.specs.declared.cursor.Cursor.{Cursor}
 use Rattle.lexer.specs.declared.cursor.Advanced.{Advanced}
-use Rattle.lexer.specs.Lexed.{codeOf, sizeOf}
+use Rattle.base.specs.Lexed.{codeOf, sizeOf}
 use Rattle.lexer.specs.Cursor.{advancedOf}
-use Rattle.lexer.proofs.Found.{code-lexed, size-lexed}
+use Rattle.base.proofs.Found.{code-lexed, size-lexed}
 use Rattle.reader.specs.Answers.{longest, answer, givenAnswer, givenTape}
 use Rattle.reader.proofs.Turn.{State, begin, fits-entry, at-end, at-end-tape, size-pos, next}
 

@@ -10,12 +10,10 @@ use lib.Dec.{eqb}
 use lib.ListN.{length, getD, drop, length-drop, drop-of-length-le}
 use lib.Seq.{drop-cons, drop-drop, getD-drop}
 use Rattle.base.specs.Text.{pick}
+use Rattle.base.specs.Item.{Lexeme, lexeme}
 use Rattle.base.proofs.Tests.{refuted, and-true}
-use Rattle.codes.specs.Errors as errors
 use Rattle.rules.specs.Faults.{Scan, quotes, escaped, block}
 use Rattle.rules.proofs.BlockExact.{quotes-true}
-use Rattle.strings.specs.declared.StringState.the-variants.{BlockStringLiteral}
-use Rattle.strings.specs.declared.StringScan.{StringScan}
 use Rattle.strings.specs.String.{blockOf}
 
 -- `"""` has three bytes
@@ -66,8 +64,8 @@ block-step [] h e = absurd (omega arith)
 block-step (b ∷ bs) h e = rw (e, one-add, suc-add, block-skip (escaped (b ∷ bs)) bs (escaped-in b bs))
 
 -- the answer of a block string that is read on from i
-abbrev pub blockFrom : ℕ → List ℕ → StringScan
-blockFrom i t = record { closed = block 0 (drop i t) .closed; size = i + block 0 (drop i t) .size; fault = errors.none; state = BlockStringLiteral }
+abbrev pub blockFrom : ℕ → List ℕ → Lexeme
+blockFrom i t = lexeme (pick (block 0 (drop i t) .closed) 19 76) (i + block 0 (drop i t) .size)
 
 -- it is read on from the opening `"""`
 pub block-begins : (t : List ℕ) → blockOf t ≡ blockFrom 3 t
@@ -76,7 +74,7 @@ block-begins t = let e : suc (suc (suc (block 0 (drop 3 t) .size))) ≡ 3 + bloc
 
 -- the closing `"""` stands at i
 pub block-closes : (i : ℕ) (t : List ℕ) → i < length t → quotes (drop i t) ≡ true
-    → blockFrom i t ≡ record { closed = true; size = i + 3; fault = errors.none; state = BlockStringLiteral }
+    → blockFrom i t ≡ lexeme 19 (i + 3)
 unfolding block
 block-closes i t h e = rw (shut (drop i t) (simp length-drop (omega arith)) e)
   where
@@ -98,6 +96,6 @@ block-within i t h = go (drop i t) (length-drop i t)
     go (b ∷ bs) l = let w = escaped-in b bs in omega arith
 
 -- the text ends
-pub block-ends : (i : ℕ) (t : List ℕ) → length t ≤ i → blockFrom i t ≡ record { closed = false; size = i; fault = errors.none; state = BlockStringLiteral }
+pub block-ends : (i : ℕ) (t : List ℕ) → length t ≤ i → blockFrom i t ≡ lexeme 76 i
 unfolding block
 block-ends i t h = rw (drop-of-length-le t h, add-zero)

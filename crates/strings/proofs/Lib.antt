@@ -4,4 +4,5 @@ pub mod Quoted
 pub mod Plain
 pub mod Block
 pub mod Simulation
+pub mod Items
 pub mod Unique

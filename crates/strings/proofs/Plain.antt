@@ -13,14 +13,14 @@ use lib.ListN.{length, drop, length-drop}
 use lib.Seq.{drop-drop}
 use Rattle.base.specs.Text.{pick}
 use Rattle.base.specs.Run.{run}
+use Rattle.base.specs.Item.{Lexeme, lexeme}
 use Rattle.base.proofs.Tests.{and-true}
 use Rattle.base.proofs.Runs.{run-fits}
 use Rattle.rules.specs.Classes.{lineEnd, plainCharacter}
 use Rattle.strings.specs.declared.StringState.{StringState}
 use Rattle.strings.proofs.StringState.{the-type}
-use Rattle.strings.specs.declared.StringState.the-variants.{StringLiteralStart, StringLiteral, StringLiteralBackslash, StringLiteralEscapedUnicode, StringLiteralEscapedUnicodeVariable, StringLiteralLeadSurrogate, StringLiteralLeadSurrogateBackslash, BlockStringLiteral}
+use Rattle.strings.specs.declared.StringState.the-variants.{StringLiteralStart, StringLiteral, StringLiteralBackslash, StringLiteralEscapedUnicode, StringLiteralEscapedUnicodeVariable, StringLiteralLeadSurrogate, StringLiteralLeadSurrogateBackslash}
 use Rattle.strings.specs.declared.StringStep.the-variants.{Go}
-use Rattle.strings.specs.declared.StringScan.{StringScan}
 use Rattle.strings.specs.String.{inText, stringStep, laterOf, further, quotedFrom, plainRun}
 
 -- a plain byte in plain text: no other state, and no fault
@@ -32,10 +32,10 @@ plain-goes b e =
     rw (not-true (eqb b 34) (h .0), not-true (eqb b 92) (k .0), not-true (lineEnd b) (k .1))
 
 -- m bytes and n bytes earlier
-further-sum : (m n k : ℕ) (r : StringScan) → m + n ≡ k → further m (further n r) ≡ further k r
-further-sum m n k r e =
-    let sizes : m + (n + r .size) ≡ k + r .size = omega arith in
-    ap (λ size. record { closed = r .closed; size = size; fault = r .fault; state = r .state }) sizes
+further-sum : (m n k : ℕ) (x : Lexeme) → m + n ≡ k → further m (further n x) ≡ further k x
+further-sum m n k x e =
+    let sizes : m + (n + x .size) ≡ k + x .size = omega arith in
+    ap (lexeme (x .code)) sizes
 
 -- from the front of a text
 plain-front : (err : ℕ) (t : List ℕ)
@@ -63,7 +63,6 @@ plain-passes (StringLiteralEscapedUnicode r v p) err i t = rw (add-zero i)
 plain-passes (StringLiteralEscapedUnicodeVariable v d) err i t = rw (add-zero i)
 plain-passes StringLiteralLeadSurrogate err i t = rw (add-zero i)
 plain-passes StringLiteralLeadSurrogateBackslash err i t = rw (add-zero i)
-plain-passes BlockStringLiteral err i t = rw (add-zero i)
 
 plain-fits : (s : StringState) (t : List ℕ) → plainRun s t ≤ length t
 unfolding plainRun
@@ -74,7 +73,6 @@ plain-fits (StringLiteralEscapedUnicode r v p) t = zero-le
 plain-fits (StringLiteralEscapedUnicodeVariable v d) t = zero-le
 plain-fits StringLiteralLeadSurrogate t = zero-le
 plain-fits StringLiteralLeadSurrogateBackslash t = zero-le
-plain-fits BlockStringLiteral t = zero-le
 
 -- from i on
 pub plain-within : (s : StringState) (i : ℕ) (t : List ℕ) → i ≤ length t → i + plainRun s (drop i t) ≤ length t
@@ -82,7 +80,7 @@ plain-within s i t h = omega (arith, plain-fits s (drop i t), length-drop i t)
 
 -- the tags of the states other than plain text
 abbrev pub others : List ℕ
-others = 0 ∷ 2 ∷ 3 ∷ 4 ∷ 5 ∷ 6 ∷ 7 ∷ []
+others = 0 ∷ 2 ∷ 3 ∷ 4 ∷ 5 ∷ 6 ∷ []
 
 -- in these no byte is passed
 pub plain-none : (s : StringState) (t : List ℕ) → OneOf others (tagOf the-type s) → plainRun s t ≡ 0
@@ -94,4 +92,3 @@ plain-none (StringLiteralEscapedUnicode r v p) t k = refl
 plain-none (StringLiteralEscapedUnicodeVariable v d) t k = refl
 plain-none StringLiteralLeadSurrogate t k = refl
 plain-none StringLiteralLeadSurrogateBackslash t k = refl
-plain-none BlockStringLiteral t k = refl

@@ -1,15 +1,15 @@
 -- Quoted strings as the code reads them: the loop that takes one byte after another. Assumes nothing.
 use mathlib.Core.Path.{_≡_}
-use mathlib.Core.Bool.{true, false}
 use mathlib.Core.List.{List}
 use Prim.Native.Nat.{ℕ, _+_, _≤_, _<_}
 use native.Mathlib.Nat.{add-zero, add-assoc}
 use native.Mathlib.Numerals.{add-one}
 use lib.ListN.{length, getD, drop, drop-of-length-le}
 use lib.Seq.{drop-cons}
+use Rattle.base.specs.Item.{lexeme}
 use Rattle.strings.specs.declared.StringState.{StringState}
 use Rattle.strings.specs.declared.StringStep.the-variants.{Go, Close}
-use Rattle.strings.specs.String.{stringStep, laterOf, further, quotedFrom}
+use Rattle.strings.specs.String.{endOf, stringStep, laterOf, doneCode, further, quotedFrom}
 
 module _ (s : StringState) (err i : ℕ) (t : List ℕ) where
   -- the byte at i leads to another state
@@ -20,11 +20,11 @@ module _ (s : StringState) (err i : ℕ) (t : List ℕ) where
 
   -- the byte at i closes the string
   pub quoted-closes : (fault : ℕ) → i < length t → stringStep s (getD t i 0) ≡ Close fault
-      → further i (quotedFrom s err (drop i t)) ≡ record { closed = true; size = i + 1; fault = laterOf err fault; state = s }
+      → further i (quotedFrom s err (drop i t)) ≡ lexeme (doneCode (laterOf err fault)) (i + 1)
   unfolding quotedFrom
   quoted-closes fault h e = rw (drop-cons t i 0 h, e)
 
   -- the text ends
-  pub quoted-ends : length t ≤ i → further i (quotedFrom s err (drop i t)) ≡ record { closed = false; size = i; fault = err; state = s }
+  pub quoted-ends : length t ≤ i → further i (quotedFrom s err (drop i t)) ≡ lexeme (endOf s) i
   unfolding quotedFrom
   quoted-ends h = rw (drop-of-length-le t h, add-zero)

@@ -7,26 +7,22 @@ use Prim.Native.Nat.{ℕ, zero, suc, _+_, _≤_, _<_, min}
 use native.Mathlib.Numerals.{one-add}
 use native.Mathlib.Omega.{arith}
 use lib.Dec.{leb, eqb}
-use lib.ListN.{length, drop}
+use lib.ListN.{length}
 use borrow.Author.Tests.{leb-true, leb-false, ne-eqb, lt-ltb}
 use Rattle.base.specs.Text.{pick, from}
+use Rattle.base.specs.Item.{Lexeme}
 use Rattle.base.proofs.Tests.{by, from-above}
-use Rattle.codes.specs.Errors as errors
 use Rattle.utf8.specs.Encode.{scalar}
 use Rattle.rules.specs.Classes.{lineEnd, escapedCharacter, hexDigit, withDigit, leadSurrogate, trailSurrogate}
 use Rattle.rules.specs.Faults as faults
-use Rattle.rules.specs.Faults.{Scan, State, opened, text, escape, unicode, digits, brace, braced, lead, leadEscape, trail, Move, to, shut, whole, wholeTrail, wholeBraced, after, moved, scan, quotes, block, stringScan}
+use Rattle.rules.specs.Faults.{Scan, State, opened, text, escape, unicode, digits, brace, braced, lead, leadEscape, trail, Move, to, shut, whole, wholeTrail, wholeBraced, after, moved, scan}
 use Rattle.rules.specs.StringAt.{last}
-use Rattle.rules.proofs.Escapes.{true-false}
 use Rattle.rules.proofs.Capped.{cap, cap-digit, cap-scalar}
-use Rattle.rules.proofs.BlockExact.{block-faults}
-use Rattle.rules.proofs.StringSizes.{scan-fits}
 use Rattle.strings.specs.declared.StringState.{StringState}
 use Rattle.strings.specs.declared.StringState.the-variants.{StringLiteral, StringLiteralBackslash, StringLiteralEscapedUnicode, StringLiteralEscapedUnicodeVariable, StringLiteralLeadSurrogate, StringLiteralLeadSurrogateBackslash}
 use Rattle.strings.specs.declared.StringStep.{StringStep}
 use Rattle.strings.specs.declared.StringStep.the-variants.{Go, Close}
-use Rattle.strings.specs.declared.StringScan.{StringScan}
-use Rattle.strings.specs.String.{endOf, capped, inText, startStep, backslashStep, noDigit, wholeUnicode, unicodeStep, variableStep, leadStep, leadBackslashStep, stringStep, laterOf, further, begun, quotedBy, quotedFrom, blockOf, StringScans}
+use Rattle.strings.specs.String.{endOf, capped, inText, startStep, backslashStep, noDigit, wholeUnicode, unicodeStep, variableStep, leadStep, leadBackslashStep, stringStep, laterOf, doneCode, begun, quotedBy, quotedFrom}
 
 -- a number that is capped lies in the same ranges below the cap
 cap-from : (low high v : ℕ) → high < 0x110000 → from low high (cap v) ≡ from low high v
@@ -167,52 +163,30 @@ same-fault none err gs = refl
 same-fault (one e) err gs = rw e
 
 -- what the code finds is what is defined, and the text's end leaves the code `end`
-record Agrees (err end : ℕ) (r : StringScan) (g : Scan) : Type 0 where
-  closes : r .closed ≡ g .closed
-  covers : r .size ≡ g .size
-  faults : r .fault ≡ last err (g .faults)
-  ends : r .closed ≡ false → endOf (r .state) ≡ end
+pub record Agrees (err end : ℕ) (x : Lexeme) (g : Scan) : Type 0 where
+  pub covers : x .size ≡ g .size
+  pub coded : x .code ≡ pick (g .closed) (doneCode (last err (g .faults))) end
 
 -- after related moves, if what follows agrees
-moved-agrees : (t : List ℕ) (err : ℕ) (before : StringState) {x : StringStep} {m : Move} → SameMove x m
+moved-agrees : (t : List ℕ) (err : ℕ) {x : StringStep} {m : Move} → SameMove x m
     → ((err : ℕ) (s : StringState) (s′ : State) → Same s s′ → Agrees err 76 (quotedFrom s err t) (scan s′ t))
-    → Agrees err 76 (quotedBy x before err (λ s err. quotedFrom s err t)) (moved m (λ s. scan s t))
-moved-agrees t err before (goes {f} {fs} {s} {s′} e h) ih =
+    → Agrees err 76 (quotedBy x err (λ s err. quotedFrom s err t)) (moved m (λ s. scan s t))
+moved-agrees t err (goes {f} {fs} {s} {s′} e h) ih =
     let a = ih (laterOf err f) s s′ h in
-    record { closes = a .closes; covers = rw one-add (ap suc (a .covers)); faults = a .faults ∙ same-fault e err (scan s′ t .faults); ends = a .ends }
-moved-agrees t err before (closes e) ih = record { closes = refl; covers = refl; faults = rw append-nil at (same-fault e err []); ends = λ z. true-false z }
+    record {
+      covers = rw one-add (ap suc (a .covers));
+      coded = a .coded ∙ ap (λ n. pick (scan s′ t .closed) (doneCode n) 76) (same-fault e err (scan s′ t .faults));
+    }
+moved-agrees t err (closes e) ih = record { covers = refl; coded = ap doneCode (rw append-nil at (same-fault e err [])) }
 
 -- from related states
 quoted-agrees : (t : List ℕ) (err : ℕ) (s : StringState) (s′ : State) → Same s s′ → Agrees err 76 (quotedFrom s err t) (scan s′ t)
 unfolding quotedFrom scan
-quoted-agrees [] err s s′ h = record { closes = refl; covers = refl; faults = refl; ends = λ e. not-lone h }
-quoted-agrees (b ∷ t) err s s′ h = moved-agrees t err s (moves h b) (quoted-agrees t)
+quoted-agrees [] err s s′ h = record { covers = refl; coded = not-lone h }
+quoted-agrees (b ∷ t) err s s′ h = moved-agrees t err (moves h b) (quoted-agrees t)
 
 -- from the opening quote, which may be the last byte
-opened-agrees : (t : List ℕ) (err : ℕ) → Agrees err (pick (eqb (1 + length t) 1) 75 76) (quotedFrom begun err t) (scan opened t)
+pub opened-agrees : (t : List ℕ) (err : ℕ) → Agrees err (pick (eqb (1 + length t) 1) 75 76) (quotedFrom begun err t) (scan opened t)
 unfolding quotedFrom scan stringStep
-opened-agrees [] err = record { closes = refl; covers = refl; faults = refl; ends = λ e. refl }
-opened-agrees (b ∷ t) err = rw (ne-eqb (1 + suc (length t)) 1 (λ z. omega arith)) (moved-agrees t err begun (start-move b) (quoted-agrees t))
-
--- so a quoted string is scanned
-pub quoted-scans : (t : List ℕ) → quotes t ≡ false → StringScans t (further 1 (quotedFrom begun errors.none (drop 1 t)))
-unfolding stringScan
-quoted-scans t e =
-    let a = opened-agrees (drop 1 t) errors.none in
-    record {
-      closes = rw e (a .closes);
-      covers = rw (e, one-add) (ap suc (a .covers));
-      faults = rw e (a .faults);
-      ends = λ z. let l = a .covers ∙ scan-fits (drop 1 t) opened .to-the-end (sym (a .closes) ∙ z) in rw l (a .ends z);
-    }
-
--- and a block string
-pub block-scans : (t : List ℕ) → quotes t ≡ true → StringScans t (blockOf t)
-unfolding stringScan blockOf
-block-scans t e =
-    record {
-      closes = rw e;
-      covers = rw e;
-      faults = rw (e, block-faults (drop 3 t) 0);
-      ends = λ z. rw (ne-eqb (suc (suc (suc (block 0 (drop 3 t) .size)))) 1 (λ y. omega arith));
-    }
+opened-agrees [] err = record { covers = refl; coded = refl }
+opened-agrees (b ∷ t) err = rw (ne-eqb (1 + suc (length t)) 1 (λ z. omega arith)) (moved-agrees t err (start-move b) (quoted-agrees t))

@@ -1,25 +1,23 @@
--- What the answers mean, and the machine of strings that the code runs: proved to give the items of document 01, the machine need not be
--- believed. Assumes nothing: these are definitions.
+-- The machine of strings that the code runs: proved to give the items of document 01, it need not be believed. Assumes nothing: these are
+-- definitions.
 use Prim.Native.Nat.{ℕ, _+_, _-_, min}
-use mathlib.Core.Path.{_≡_}
 use mathlib.Core.Bool.{Bool, true, false, not, _&&_}
 use mathlib.Core.List.{List, [], _∷_}
 use lib.Dec.{eqb, ltb}
 use Rattle.base.specs.Text.{pick}
 use Rattle.base.specs.Run.{run}
+use Rattle.base.specs.Item.{Lexeme, lexeme}
 use Rattle.codes.specs.Errors as errors
 use Rattle.codes.specs.ItemCodes as codes
 use Rattle.utf8.specs.Encode.{scalar}
 use Rattle.rules.specs.Classes.{lineEnd, escapedCharacter, plainCharacter, hexDigit, withDigit, leadSurrogate, trailSurrogate}
-use Rattle.rules.specs.Faults.{blockScan, stringScan}
-use Rattle.rules.specs.StringAt.{last}
+use Rattle.rules.specs.Faults.{blockScan}
 use Rattle.strings.specs.declared.StringState.{StringState}
-use Rattle.strings.specs.declared.StringState.the-variants.{StringLiteralStart, StringLiteral, StringLiteralBackslash, StringLiteralEscapedUnicode, StringLiteralEscapedUnicodeVariable, StringLiteralLeadSurrogate, StringLiteralLeadSurrogateBackslash, BlockStringLiteral}
+use Rattle.strings.specs.declared.StringState.the-variants.{StringLiteralStart, StringLiteral, StringLiteralBackslash, StringLiteralEscapedUnicode, StringLiteralEscapedUnicodeVariable, StringLiteralLeadSurrogate, StringLiteralLeadSurrogateBackslash}
 use Rattle.strings.specs.declared.StringStep.{StringStep}
 use Rattle.strings.specs.declared.StringStep.the-variants.{Go, Close}
-use Rattle.strings.specs.declared.StringScan.{StringScan}
 
--- the code of the item that the text's end leaves of a string: 11 for a lone quote, 12 for any other
+-- the code of the item that the text's end leaves of a quoted string: 11 for a lone quote, 12 for any other
 abbrev pub endOf : StringState → ℕ
 endOf StringLiteralStart = codes.error errors.loneQuote
 endOf StringLiteral = codes.error errors.unterminatedString
@@ -28,7 +26,6 @@ endOf (StringLiteralEscapedUnicode remaining value trail) = codes.error errors.u
 endOf (StringLiteralEscapedUnicodeVariable value digits) = codes.error errors.unterminatedString
 endOf StringLiteralLeadSurrogate = codes.error errors.unterminatedString
 endOf StringLiteralLeadSurrogateBackslash = codes.error errors.unterminatedString
-endOf BlockStringLiteral = codes.error errors.unterminatedString
 
 -- the number with one hex digit more, which stays at 110000 once there
 unfoldable pub capped : ℕ → ℕ → ℕ
@@ -94,29 +91,32 @@ stringStep (StringLiteralEscapedUnicode r v p) b = unicodeStep r v p b
 stringStep (StringLiteralEscapedUnicodeVariable v d) b = variableStep v d b
 stringStep StringLiteralLeadSurrogate b = leadStep b
 stringStep StringLiteralLeadSurrogateBackslash b = leadBackslashStep b
-stringStep BlockStringLiteral b = inText b
 
 -- the later fault counts; 0 is none
 unfoldable pub laterOf : ℕ → ℕ → ℕ
 laterOf err fault = pick (eqb fault errors.none) err fault
 
--- a scan that began n bytes earlier
-abbrev pub further : ℕ → StringScan → StringScan
-further n r = record { closed = r .closed; size = n + r .size; fault = r .fault; state = r .state }
+-- the code of a string that closes, by its last fault
+unfoldable pub doneCode : ℕ → ℕ
+doneCode fault = pick (eqb fault errors.none) codes.string (codes.error fault)
+
+-- what began n bytes earlier
+abbrev pub further : ℕ → Lexeme → Lexeme
+further n x = lexeme (x .code) (n + x .size)
 
 -- where a quoted string begins
 abbrev pub begun : StringState
 begun = StringLiteralStart
 
--- what a step makes of a string in the state s, with its last fault so far; k reads on
-abbrev pub quotedBy : StringStep → StringState → ℕ → (StringState → ℕ → StringScan) → StringScan
-quotedBy (Go next fault) s err k = further 1 (k next (laterOf err fault))
-quotedBy (Close fault) s err k = record { closed = true; size = 1; fault = laterOf err fault; state = s }
+-- what a step makes of a string, with its last fault so far; k reads on
+abbrev pub quotedBy : StringStep → ℕ → (StringState → ℕ → Lexeme) → Lexeme
+quotedBy (Go next fault) err k = further 1 (k next (laterOf err fault))
+quotedBy (Close fault) err k = lexeme (doneCode (laterOf err fault)) 1
 
 -- a quoted string, read on from a state, with its last fault so far
-unfoldable pub quotedFrom : StringState → ℕ → List ℕ → StringScan
-quotedFrom s err [] = record { closed = false; size = 0; fault = err; state = s }
-quotedFrom s err (b ∷ t) = quotedBy (stringStep s b) s err (λ next fault. quotedFrom next fault t)
+unfoldable pub quotedFrom : StringState → ℕ → List ℕ → Lexeme
+quotedFrom s err [] = lexeme (endOf s) 0
+quotedFrom s err (b ∷ t) = quotedBy (stringStep s b) err (λ next fault. quotedFrom next fault t)
 
 -- how many bytes at the front leave a string in the state as it is, by being plain
 unfoldable pub plainRun : StringState → List ℕ → ℕ
@@ -127,18 +127,7 @@ plainRun (StringLiteralEscapedUnicode r v p) t = 0
 plainRun (StringLiteralEscapedUnicodeVariable v d) t = 0
 plainRun StringLiteralLeadSurrogate t = 0
 plainRun StringLiteralLeadSurrogateBackslash t = 0
-plainRun BlockStringLiteral t = 0
 
--- a block string: it has no faults
-unfoldable pub blockOf : List ℕ → StringScan
-blockOf t = record { closed = blockScan t .closed; size = blockScan t .size; fault = errors.none; state = BlockStringLiteral }
-
--- what a scan of the string at the front of t says of it
-pub record StringScans (t : List ℕ) (r : StringScan) : Type 0 where
-  -- whether it closes, and through which byte
-  pub closes : r .closed ≡ stringScan t .closed
-  pub covers : r .size ≡ stringScan t .size
-  -- its last fault, or none
-  pub faults : r .fault ≡ last errors.none (stringScan t .faults)
-  -- at the text's end: error 11 for a lone quote, else 12
-  pub ends : r .closed ≡ false → endOf (r .state) ≡ pick (eqb (r .size) 1) (codes.error errors.loneQuote) (codes.error errors.unterminatedString)
+-- a block string: it has no faults, but may be cut off
+unfoldable pub blockOf : List ℕ → Lexeme
+blockOf t = lexeme (pick (blockScan t .closed) codes.string (codes.error errors.unterminatedString)) (blockScan t .size)

@@ -1,12 +1,13 @@
 -- `numbers::number_from` meets its contract. The invariant: what is left to be read from here is what was to be read at the start.
 -- Assumes nothing.
 use Prim.Native.Nat.{_-_}
-use mathlib.Core.Path.{sym, _∙_}
+use mathlib.Core.Path.{sym, ap, _∙_}
 use native.Mathlib.Omega.{arith}
 use borrow.Author.Needs.{needs}
 use lib.ListN.{length}
+use Rattle.base.specs.Lexed.{lexedOf}
+use Rattle.base.proofs.Found.{error-lexed}
 use Rattle.numbers.proofs.Turn.{Passed, begin, turn, done, ended, error-fits, failed}
-use Rattle.numbers.proofs.Tokens.{kind-small}
 use Rattle.numbers.proofs.number_from.Statement.{statement}
 use Rattle.numbers.proofs.number_from.Tie as tie
 
@@ -42,17 +43,15 @@ loop-again c =
 enum-told : tie.Need-enum-told Inv-loop μ-loop
 enum-told c = search needs
 
-number-kind-requires : tie.Need-number-kind-requires Inv-loop μ-loop
-number-kind-requires c κs = search needs
+ended-requires : tie.Need-ended-requires Inv-loop μ-loop
+ended-requires c κs = search needs
 
 returns : tie.Need-returns Inv-loop μ-loop
 returns c =
     let at-step = c .before .before .before in
-    let k = kind-small (at-step .before .before .before .loop .state) in (
-      done _ _ _ _ (at-step .before .before .before .loop .inv) _ (at-step .before .before .loop-test .taken)
-          (sym (at-step .number-step .ensures) ∙ c .before .enum-told .given .1) (c .number-kind .ensures),
-      omega (arith, c .number-kind .ensures),
-    )
+    c .ended .ensures
+    ∙ ap lexedOf (done _ _ _ _ (at-step .before .before .before .loop .inv) (at-step .before .before .loop-test .taken)
+    (sym (at-step .number-step .ensures) ∙ c .before .enum-told .given .1))
 
 enum-known-fault : tie.Need-enum-known-fault Inv-loop μ-loop
 enum-known-fault c = search needs
@@ -69,19 +68,21 @@ part-size-at-end c = search needs
 size-at-requires : tie.Need-size-at-requires Inv-loop μ-loop
 size-at-requires c κs = search needs
 
-add-t18 : tie.Need-add-t18 Inv-loop μ-loop
-add-t18 c = let f = error-fits _ _ _ _ (c .before .before .before .before .before .before .before .before .loop .inv) _ (c .size-at .ensures) in omega arith
+add-size : tie.Need-add-size Inv-loop μ-loop
+add-size c = let f = error-fits _ _ _ _ (c .before .before .before .before .before .before .before .before .loop .inv) _ (c .size-at .ensures) in omega arith
 
 returns-2 : tie.Need-returns-2 Inv-loop μ-loop
 returns-2 c =
-    let at-step = c .before .before .before .before .before in (
-      failed _ _ _ _ (at-step .before .before .before .loop .inv) _ (c .size-at .ensures) _ (at-step .before .before .loop-test .taken)
-          (sym (at-step .number-step .ensures) ∙ c .before .before .before .fault .given .1),
-      tt,
-    )
+    let at-step = c .before .before .before .before .before in
+    error-lexed _ _
+    ∙ ap lexedOf (failed _ _ _ _ (at-step .before .before .before .loop .inv) _ (c .size-at .ensures) _ (at-step .before .before .loop-test .taken)
+    (sym (at-step .number-step .ensures) ∙ c .before .before .before .fault .given .1))
+
+ended-requires-2 : tie.Need-ended-requires-2 Inv-loop μ-loop
+ended-requires-2 c κs = search needs
 
 returns-3 : tie.Need-returns-3 Inv-loop μ-loop
-returns-3 c = (ended _ _ _ _ (c .before .loop .inv) (c .loop-test .left), tt)
+returns-3 c = c .ended2 .ensures ∙ ap lexedOf (ended _ _ _ _ (c .before .before .loop .inv) (c .before .loop-test .left))
 
 pub number-from-spec : {M : Type 1} → statement M
 number-from-spec =
@@ -97,13 +98,14 @@ number-from-spec =
     loop-less
     loop-again
     enum-told
-    number-kind-requires
+    ended-requires
     returns
     enum-known-fault
     sub-size-at
     part-size-at-start
     part-size-at-end
     size-at-requires
-    add-t18
+    add-size
     returns-2
+    ended-requires-2
     returns-3)

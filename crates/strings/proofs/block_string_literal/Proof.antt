@@ -1,9 +1,10 @@
 -- `strings::block_string_literal` meets its contract. The invariant: the block string is that which is read on from i. Assumes nothing.
-use mathlib.Core.Path.{_≡_, sym, _∙_}
+use mathlib.Core.Path.{_≡_, sym, ap, _∙_}
 use Prim.Native.Nat.{_+_, _-_, _≤_}
 use native.Mathlib.Omega.{arith}
 use lib.ListN.{length}
 use borrow.Author.Needs.{needs}
+use Rattle.base.specs.Lexed.{lexedOf}
 use Rattle.strings.specs.String.{blockOf}
 use Rattle.strings.proofs.Block.{blockFrom, block-begins, block-closes, block-turn, block-within, block-ends}
 use Rattle.strings.proofs.block_string_literal.Statement.{statement}
@@ -21,15 +22,16 @@ loop-holds c = let a = c .before .args in (c .before .pre, block-begins (a .rest
 quotes-at-requires : tie.Need-quotes-at-requires Inv-loop μ-loop
 quotes-at-requires c κs = search needs
 
-add-t6 : tie.Need-add-t6 Inv-loop μ-loop
-add-t6 c = search needs
+add-size : tie.Need-add-size Inv-loop μ-loop
+add-size c = search needs
 
 returns : tie.Need-returns Inv-loop μ-loop
+unfolding lexedOf
 returns c =
     let at-test = c .before .before in
     let at-loop = at-test .before in
     let a = at-loop .before .before .args in
-    sym (at-loop .loop .inv .1 ∙ block-closes (at-loop .loop .i) (a .rest .now) (at-test .loop-test .taken) (sym (c .before .quotes-at .ensures) ∙ c .if1 .taken))
+    ap lexedOf (sym (at-loop .loop .inv .1 ∙ block-closes (at-loop .loop .i) (a .rest .now) (at-test .loop-test .taken) (sym (c .before .quotes-at .ensures) ∙ c .if1 .taken)))
 
 escape-at-requires : tie.Need-escape-at-requires Inv-loop μ-loop
 escape-at-requires c κs = search needs
@@ -61,10 +63,11 @@ loop-again c =
     (within c, at-loop .loop .inv .1 ∙ turn ∙ rw (c .escape-at .ensures))
 
 returns-2 : tie.Need-returns-2 Inv-loop μ-loop
+unfolding lexedOf
 returns-2 c =
     let at-loop = c .before in
     let a = at-loop .before .before .args in
-    sym (at-loop .loop .inv .1 ∙ block-ends (at-loop .loop .i) (a .rest .now) (c .loop-test .left))
+    ap lexedOf (sym (at-loop .loop .inv .1 ∙ block-ends (at-loop .loop .i) (a .rest .now) (c .loop-test .left)))
 
 pub block-string-literal-spec : {M : Type 1} → statement M
 block-string-literal-spec =
@@ -74,7 +77,7 @@ block-string-literal-spec =
     μ-loop
     loop-holds
     quotes-at-requires
-    add-t6
+    add-size
     returns
     escape-at-requires
     add-i

@@ -1,8 +1,9 @@
 -- `strings::string` meets its contract: a block string where `"""` stands, else a quoted string. Assumes nothing.
-use mathlib.Core.Path.{sym, _∙_}
+use mathlib.Core.Path.{sym, ap, _∙_}
 use borrow.Author.Needs.{needs}
+use Rattle.base.specs.Lexed.{lexedOf}
 use Rattle.strings.proofs.Block.{quotes-long}
-use Rattle.strings.proofs.Simulation.{quoted-scans, block-scans}
+use Rattle.strings.proofs.Items.{quoted-at, block-at}
 use Rattle.strings.proofs.string.Statement.{statement}
 use Rattle.strings.proofs.string.Tie as tie
 
@@ -15,16 +16,16 @@ block-string-literal-requires c κs =
 
 returns : tie.Need-returns
 returns c =
-    let a = c .before .before .before .before .args in
-    rw (c .block-string-literal .ensures) (block-scans (a .rest .now) (sym (c .before .before .quotes-at .ensures) ∙ c .before .if1 .taken))
+    let start = c .before .before .before .before in
+    c .block-string-literal .ensures ∙ ap lexedOf (block-at (start .args .rest .now) (start .pre .0) (start .pre .1) (sym (c .before .before .quotes-at .ensures) ∙ c .before .if1 .taken))
 
 string-literal-requires : tie.Need-string-literal-requires
 string-literal-requires c κs = search needs
 
 returns-2 : tie.Need-returns-2
 returns-2 c =
-    let a = c .before .before .before .before .args in
-    rw (c .string-literal .ensures) (quoted-scans (a .rest .now) (sym (c .before .before .quotes-at .ensures) ∙ c .before .if1 .left))
+    let start = c .before .before .before .before in
+    c .string-literal .ensures ∙ ap lexedOf (quoted-at (start .args .rest .now) (start .pre .0) (start .pre .1) (sym (c .before .before .quotes-at .ensures) ∙ c .before .if1 .left))
 
 pub string-spec : {M : Type 1} → statement M
 string-spec =

@@ -1,10 +1,11 @@
 -- `strings::string_literal` meets its contract. The invariant: the string is that which is read on from the state at i, i bytes further on.
 -- Assumes nothing.
-use mathlib.Core.Path.{_≡_, refl, sym, _∙_}
+use mathlib.Core.Path.{_≡_, refl, sym, ap, _∙_}
 use Prim.Native.Nat.{_+_, _-_, _≤_}
 use native.Mathlib.Omega.{arith}
 use lib.ListN.{length, drop}
 use borrow.Author.Needs.{needs}
+use Rattle.base.specs.Lexed.{lexedOf}
 use Rattle.codes.specs.Errors as errors
 use Rattle.strings.specs.String.{laterOf, further, begun, quotedFrom}
 use Rattle.strings.proofs.Quoted.{quoted-goes, quoted-closes, quoted-ends}
@@ -68,28 +69,34 @@ loop-again c =
 enum-known-fault : tie.Need-enum-known-fault Inv-loop μ-loop
 enum-known-fault c = search needs
 
-add-t14 : tie.Need-add-t14 Inv-loop μ-loop
-add-t14 c = search needs
-
 later-requires-2 : tie.Need-later-requires-2 Inv-loop μ-loop
 later-requires-2 c κs = search needs
 
+add-done : tie.Need-add-done Inv-loop μ-loop
+add-done c = search needs
+
+done-requires : tie.Need-done-requires Inv-loop μ-loop
+done-requires c κs = search needs
+
 returns : tie.Need-returns Inv-loop μ-loop
 returns c =
-    let at-fault = c .before .before in
+    let at-fault = c .before .before .before in
     let at-step = at-fault .before .before in
     let at-test = at-step .before .before in
     let at-loop = at-test .before in
     let a = at-loop .before .before .args in
     let v = at-fault .fault .given in
     let closes = quoted-closes (at-loop .loop .state) (at-loop .loop .err) (at-loop .loop .i) (a .rest .now) (v .0 .0) (at-test .loop-test .taken) (sym (at-step .string-step .ensures) ∙ v .1) in
-    rw (c .later2 .ensures) (sym (at-loop .loop .inv .1 ∙ closes))
+    c .done .ensures ∙ ap lexedOf (rw (c .before .later2 .ensures) (sym (at-loop .loop .inv .1 ∙ closes)))
+
+eof-requires : tie.Need-eof-requires Inv-loop μ-loop
+eof-requires c κs = search needs
 
 returns-2 : tie.Need-returns-2 Inv-loop μ-loop
 returns-2 c =
-    let at-loop = c .before in
+    let at-loop = c .before .before in
     let a = at-loop .before .before .args in
-    sym (at-loop .loop .inv .1 ∙ quoted-ends (at-loop .loop .state) (at-loop .loop .err) (at-loop .loop .i) (a .rest .now) (c .loop-test .left))
+    c .eof .ensures ∙ ap lexedOf (sym (at-loop .loop .inv .1 ∙ quoted-ends (at-loop .loop .state) (at-loop .loop .err) (at-loop .loop .i) (a .rest .now) (c .before .loop-test .left)))
 
 pub string-literal-spec : {M : Type 1} → statement M
 string-literal-spec =
@@ -107,7 +114,9 @@ string-literal-spec =
     loop-less
     loop-again
     enum-known-fault
-    add-t14
     later-requires-2
+    add-done
+    done-requires
     returns
+    eof-requires
     returns-2)

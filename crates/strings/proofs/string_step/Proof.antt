@@ -46,12 +46,6 @@ enum-told-5 c = search needs
 lead-backslash-step-requires : tie.Need-lead-backslash-step-requires
 lead-backslash-step-requires c κs = search needs
 
-enum-told-6 : tie.Need-enum-told-6
-enum-told-6 c = search needs
-
-text-step-requires-2 : tie.Need-text-step-requires-2
-text-step-requires-2 c κs = search needs
-
 returns : tie.Need-returns
 unfolding stringStep
 returns c = rw (c .before .enum-told .given .1) (c .start-step .ensures)
@@ -80,10 +74,6 @@ returns-7 : tie.Need-returns-7
 unfolding stringStep
 returns-7 c = rw (c .before .enum-told5 .given .1) (c .lead-backslash-step .ensures)
 
-returns-8 : tie.Need-returns-8
-unfolding stringStep
-returns-8 c = rw (c .before .enum-told6 .given .1) (c .text-step2 .ensures)
-
 pub string-step-spec : {M : Type 1} → statement M
 string-step-spec =
     tie.close
@@ -102,13 +92,10 @@ string-step-spec =
     lead-step-requires
     enum-told-5
     lead-backslash-step-requires
-    enum-told-6
-    text-step-requires-2
     returns
     returns-2
     returns-3
     returns-4
     returns-5
     returns-6
-    returns-7
-    returns-8)
+    returns-7)

@@ -3,7 +3,7 @@ use mathlib.Core.Path.{sym, ap, _∙_}
 use Prim.Native.Nat.{ℕ, _+_}
 use native.Mathlib.Omega.{arith}
 use Rattle.base.specs.Item.{lexeme}
-use Rattle.lexer.specs.Lexed.{lexedOf}
+use Rattle.base.specs.Lexed.{lexedOf}
 use Rattle.rules.specs.Classes.{notLineEnd}
 use Rattle.lexer.proofs.Fronts.{comment-item, tail-run, tail-fits}
 use borrow.Author.Needs.{needs}

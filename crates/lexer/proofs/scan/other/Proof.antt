@@ -5,7 +5,7 @@ use Rattle.base.specs.Item.{lexeme}
 use Rattle.lexer.proofs.Fronts.{other-item}
 use borrow.Author.Needs.{needs}
 use Prim.Native.Nat.{ℕ}
-use Rattle.lexer.specs.Lexed.{lexedOf}
+use Rattle.base.specs.Lexed.{lexedOf}
 use Rattle.lexer.proofs.scan.other.Statement.{statement}
 use Rattle.lexer.proofs.scan.other.Tie as tie
 

@@ -3,10 +3,10 @@ use mathlib.Core.Path.{sym, ap, _∙_}
 use native.Mathlib.Omega.{arith}
 use borrow.Author.Tests.{ne-eqb}
 use Rattle.lookup.proofs.Classes.{class-name, class-hash, class-dot, class-number, class-bounds}
-use Rattle.lexer.specs.Lexed.{lexedOf}
+use Rattle.base.specs.Lexed.{lexedOf}
 use Rattle.lexer.proofs.Blanks.{blank-one}
 use Rattle.lexer.proofs.Fronts.{eof-item, punctuator-item}
-use Rattle.lexer.proofs.Found.{token-lexed}
+use Rattle.base.proofs.Found.{token-lexed}
 use borrow.Author.Needs.{needs}
 use Rattle.lexer.proofs.scan.scan.Statement.{statement}
 use Rattle.lexer.proofs.scan.scan.Tie as tie

@@ -7,7 +7,7 @@ use lib.ListN.{drop, length-drop}
 use Rattle.utf8.proofs.Characters.{size-le}
 use Rattle.lexer.proofs.Fronts.{dot-end, dot-other, dots-end, three-dots, dots-other, tail-size}
 use borrow.Author.Needs.{needs}
-use Rattle.lexer.specs.Lexed.{lexedOf}
+use Rattle.base.specs.Lexed.{lexedOf}
 use Rattle.lexer.proofs.scan.spread_operator.Statement.{statement}
 use Rattle.lexer.proofs.scan.spread_operator.Tie as tie
 

@@ -2,7 +2,7 @@
 use mathlib.Core.Path.{sym, ap, _∙_}
 use Prim.Native.Nat.{ℕ}
 use Rattle.base.specs.Item.{lexeme}
-use Rattle.lexer.specs.Lexed.{lexedOf}
+use Rattle.base.specs.Lexed.{lexedOf}
 use Rattle.lexer.proofs.Fronts.{blank-item}
 use borrow.Author.Needs.{needs}
 use Rattle.lexer.proofs.scan.whitespace.Statement.{statement}

@@ -7,9 +7,9 @@ use lib.ListN.{drop, length-drop}
 use Rattle.base.proofs.Lists.{part-rest}
 use Rattle.rules.specs.Items.{itemAt}
 use Rattle.rules.proofs.Bounds.{item-le}
-use Rattle.lexer.specs.Lexed.{lexedOf, sizeOf}
+use Rattle.base.specs.Lexed.{lexedOf, sizeOf}
 use Rattle.lexer.specs.Cursor.{advancedOf}
-use Rattle.lexer.proofs.Found.{size-lexed}
+use Rattle.base.proofs.Found.{size-lexed}
 use borrow.Author.Needs.{needs}
 use Rattle.lexer.proofs.cursor.Cursor.advance.Statement.{statement}
 use Rattle.lexer.proofs.cursor.Cursor.advance.Tie as tie

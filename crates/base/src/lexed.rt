@@ -2,7 +2,7 @@
 use codes::item;
 ghost use mathlib.Core.Path.{_≡_};
 ghost use Prim.Native.Nat.{_<_};
-ghost use Rattle.lexer.specs.Lexed.{codeOf, sizeOf};
+ghost use Rattle.base.specs.Lexed.{codeOf, sizeOf};
 
 pub enum Lexed {
     Token { kind: u8, size: usize },

@@ -1,10 +1,10 @@
--- `lexer::lexed::code_of` meets its contract, case by case. Assumes nothing.
+-- `base::lexed::code_of` meets its contract, case by case. Assumes nothing.
 use mathlib.Core.Path.{sym, ap}
 use native.Mathlib.Omega.{arith}
-use Rattle.lexer.specs.Lexed.{codeOf}
+use Rattle.base.specs.Lexed.{codeOf}
 use borrow.Author.Needs.{needs}
-use Rattle.lexer.proofs.lexed.code_of.Statement.{statement}
-use Rattle.lexer.proofs.lexed.code_of.Tie as tie
+use Rattle.base.proofs.lexed.code_of.Statement.{statement}
+use Rattle.base.proofs.lexed.code_of.Tie as tie
 
 enum-known-item : tie.Need-enum-known-item
 enum-known-item c = search needs

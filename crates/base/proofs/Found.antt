@@ -4,10 +4,10 @@ use mathlib.Core.Path.{_≡_}
 use native.Mathlib.Omega.{arith}
 use borrow.Author.Tests.{lt-ltb, le-ltb, ltb-false}
 use lib.Dec.{ltb}
 use Rattle.base.specs.Item.{Lexeme, lexeme}
 use Rattle.base.proofs.Tests.{by}
-use Rattle.lexer.specs.declared.lexed.Lexed.the-variants.{Token, Error}
-use Rattle.lexer.specs.Lexed.{lexedOf, codeOf, sizeOf}
+use Rattle.base.specs.declared.lexed.Lexed.the-variants.{Token, Error}
+use Rattle.base.specs.Lexed.{lexedOf, codeOf, sizeOf}
 
 pub token-lexed : (k n : ℕ) → k < 64 → Token k n ≡ lexedOf (lexeme k n)
 unfolding lexedOf

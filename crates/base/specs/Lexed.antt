@@ -1,11 +1,11 @@
 -- What is found at a place of the text: document 01's code and size for each case. Assumes nothing: these are definitions.
 use Prim.Native.Nat.{ℕ, _-_}
 use lib.Dec.{ltb}
 use Rattle.base.specs.Text.{pick}
 use Rattle.base.specs.Item.{Lexeme}
 use Rattle.codes.specs.ItemCodes as codes
-use Rattle.lexer.specs.declared.lexed.Lexed.{Lexed}
-use Rattle.lexer.specs.declared.lexed.Lexed.the-variants.{Token, Error}
+use Rattle.base.specs.declared.lexed.Lexed.{Lexed}
+use Rattle.base.specs.declared.lexed.Lexed.the-variants.{Token, Error}
 
 -- an item as what is found: a token by its code, or an error, whose code is 64 + error
 unfoldable pub lexedOf : Lexeme → Lexed

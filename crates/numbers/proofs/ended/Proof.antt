@@ -1,8 +1,8 @@
--- `lexer::ends::eof_number` meets its contract, state by state. Assumes nothing.
-use Rattle.lexer.specs.Lexed.{lexedOf}
+-- `numbers::ended` meets its contract, state by state. Assumes nothing.
+use Rattle.base.specs.Lexed.{lexedOf}
 use borrow.Author.Needs.{needs}
-use Rattle.lexer.proofs.ends.eof_number.Statement.{statement}
-use Rattle.lexer.proofs.ends.eof_number.Tie as tie
+use Rattle.numbers.proofs.ended.Statement.{statement}
+use Rattle.numbers.proofs.ended.Tie as tie
 
 enum-told : tie.Need-enum-told
 enum-told c = search needs
@@ -60,8 +60,8 @@ returns-8 : tie.Need-returns-8
 unfolding lexedOf
 returns-8 c = rw (c .enum-told8 .given .1)
 
-pub eof-number-spec : {M : Type 1} → statement M
-eof-number-spec =
+pub ended-spec : {M : Type 1} → statement M
+ended-spec =
     tie.close
     (tie.spec
     enum-told
