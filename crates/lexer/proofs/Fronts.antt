@@ -67,36 +67,25 @@ punctuator-item (b ∷ r) k h e = go r (view b) e
     go r (classes.punctuator s) e l u d = rw (← e) (token-item (punctuator s))
     go r (classes.other n m w q h i p z) e l u d = absurd (omega arith)
 
--- `.` at the end of the text; and another byte after it
-pub dot-end : (t : List ℕ) → length t ≡ 1 → getD t 0 0 ≡ 46 → itemAt t ≡ lexeme 74 1
-unfolding size
-dot-end [] h e = absurd (omega arith)
-dot-end (b ∷ []) h e = rw e (item-complete (error (oneDot [] refl)))
-dot-end (b ∷ c ∷ r) h e = absurd (omega arith)
+-- `.` without a second one
+pub one-dot : (t : List ℕ) → 0 < length t → getD t 0 0 ≡ 46 → (getD t 1 0 ≡ 46 → ⊥) → itemAt t ≡ lexeme 74 (1 + size (drop 1 t))
+one-dot [] h e d = absurd (not-suc-le-zero h)
+one-dot (b ∷ []) h e d = rw e (item-complete (error (oneDot [] refl)))
+one-dot (b ∷ c ∷ r) h e d = rw e (item-complete (error (oneDot (c ∷ r) (ne-eqb c 46 d))))
 
-pub dot-other : (t : List ℕ) → 1 < length t → getD t 0 0 ≡ 46 → (getD t 1 0 ≡ 46 → ⊥) → itemAt t ≡ lexeme 74 (1 + size (drop 1 t))
-dot-other [] h e d = absurd (omega arith)
-dot-other (b ∷ []) h e d = absurd (omega arith)
-dot-other (b ∷ c ∷ r) h e d = rw e (item-complete (error (oneDot (c ∷ r) (ne-eqb c 46 d))))
+-- two without a third one
+pub two-dots : (t : List ℕ) → getD t 0 0 ≡ 46 → getD t 1 0 ≡ 46 → (getD t 2 0 ≡ 46 → ⊥) → itemAt t ≡ lexeme 74 2
+two-dots [] e f g = absurd (omega arith)
+two-dots (b ∷ []) e f g = absurd (omega arith)
+two-dots (b ∷ c ∷ []) e f g = rw (e, f) (item-complete (error (twoDots [] refl)))
+two-dots (b ∷ c ∷ d ∷ r) e f g = rw (e, f) (item-complete (error (twoDots (d ∷ r) (ne-eqb d 46 g))))
 
--- `..` at the end of the text; a third dot; and another byte after them
-pub dots-end : (t : List ℕ) → length t ≡ 2 → getD t 0 0 ≡ 46 → getD t 1 0 ≡ 46 → itemAt t ≡ lexeme 74 2
-dots-end [] h e f = absurd (omega arith)
-dots-end (b ∷ []) h e f = absurd (omega arith)
-dots-end (b ∷ c ∷ []) h e f = rw (e, f) (item-complete (error (twoDots [] refl)))
-dots-end (b ∷ c ∷ d ∷ r) h e f = absurd (omega arith)
-
-pub three-dots : (t : List ℕ) → 2 < length t → getD t 0 0 ≡ 46 → getD t 1 0 ≡ 46 → getD t 2 0 ≡ 46 → itemAt t ≡ lexeme 9 3
-three-dots [] h e f g = absurd (omega arith)
-three-dots (b ∷ []) h e f g = absurd (omega arith)
-three-dots (b ∷ c ∷ []) h e f g = absurd (omega arith)
-three-dots (b ∷ c ∷ d ∷ r) h e f g = rw (e, f, g) (token-item spread)
-
-pub dots-other : (t : List ℕ) → 2 < length t → getD t 0 0 ≡ 46 → getD t 1 0 ≡ 46 → (getD t 2 0 ≡ 46 → ⊥) → itemAt t ≡ lexeme 74 2
-dots-other [] h e f g = absurd (omega arith)
-dots-other (b ∷ []) h e f g = absurd (omega arith)
-dots-other (b ∷ c ∷ []) h e f g = absurd (omega arith)
-dots-other (b ∷ c ∷ d ∷ r) h e f g = rw (e, f) (item-complete (error (twoDots (d ∷ r) (ne-eqb d 46 g))))
+-- and three
+pub three-dots : (t : List ℕ) → getD t 0 0 ≡ 46 → getD t 1 0 ≡ 46 → getD t 2 0 ≡ 46 → itemAt t ≡ lexeme 9 3
+three-dots [] e f g = absurd (omega arith)
+three-dots (b ∷ []) e f g = absurd (omega arith)
+three-dots (b ∷ c ∷ []) e f g = absurd (omega arith)
+three-dots (b ∷ c ∷ d ∷ r) e f g = rw (e, f, g) (token-item spread)
 
 -- no punctuator, by both names of the fourteen
 agree : (b : ℕ) → punctuationOf b ≡ 0 → punctuatorAt b ≡ none

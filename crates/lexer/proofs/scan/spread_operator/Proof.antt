@@ -2,21 +2,17 @@
 use mathlib.Core.Path.{sym, ap, _∙_}
 use Prim.Native.Nat.{ℕ, _+_}
 use native.Mathlib.Omega.{arith}
-use Rattle.base.specs.Item.{lexeme}
 use lib.ListN.{drop, length-drop}
-use Rattle.utf8.proofs.Characters.{size-le}
-use Rattle.lexer.proofs.Fronts.{dot-end, dot-other, dots-end, three-dots, dots-other, tail-size}
-use borrow.Author.Needs.{needs}
+use Rattle.base.specs.Item.{lexeme}
 use Rattle.base.specs.Lexed.{lexedOf}
+use Rattle.utf8.proofs.Characters.{size-le}
+use Rattle.lexer.proofs.Fronts.{one-dot, two-dots, three-dots, tail-size}
+use borrow.Author.Needs.{needs}
 use Rattle.lexer.proofs.scan.spread_operator.Statement.{statement}
 use Rattle.lexer.proofs.scan.spread_operator.Tie as tie
 
-returns : tie.Need-returns
-unfolding lexedOf
-returns c = sym (ap lexedOf (dot-end (c .before .before .args .rest .now) (c .if1 .taken) (c .before .before .pre .1)))
-
-shared-slice-read-if2 : tie.Need-shared-slice-read-if2
-shared-slice-read-if2 c = search needs
+byte-at-requires : tie.Need-byte-at-requires
+byte-at-requires c κs = search needs
 
 sub-size-at : tie.Need-sub-size-at
 sub-size-at c = search needs
@@ -32,44 +28,47 @@ size-at-requires c κs = search needs
 
 add-size : tie.Need-add-size
 add-size c =
-    let l = size-le (drop 1 (c .before .before .before .before .before .before .args .rest .now)) in
-    let d = length-drop 1 (c .before .before .before .before .before .before .args .rest .now) in
-    omega (arith, tail-size (c .before .before .before .before .before .before .args .rest .now) (c .size-at .result) (c .before .before .before .before .before .before .pre .0) (c .size-at .ensures))
+    let start = c .before .before .before .before .before in
+    let l = size-le (drop 1 (start .args .rest .now)) in
+    let d = length-drop 1 (start .args .rest .now) in
+    omega (arith, tail-size (start .args .rest .now) (c .size-at .result) (start .pre .0) (c .size-at .ensures))
+
+returns : tie.Need-returns
+unfolding lexedOf
+returns c =
+    let at-byte = c .before .before .before in
+    let start = at-byte .before .before in
+    ap (λ (n : ℕ). lexedOf (lexeme 74 (1 + n))) (tail-size (start .args .rest .now) (c .size-at .result) (start .pre .0) (c .size-at .ensures))
+    ∙ sym (ap lexedOf (one-dot (start .args .rest .now) (start .pre .0) (start .pre .1) (λ e. c .before .before .if1 .taken (at-byte .byte-at .ensures ∙ e))))
+
+byte-at-requires-2 : tie.Need-byte-at-requires-2
+byte-at-requires-2 c κs = search needs
 
 returns-2 : tie.Need-returns-2
 unfolding lexedOf
 returns-2 c =
-    ap (λ (n : ℕ). lexedOf (lexeme 74 (1 + n))) (tail-size (c .before .before .before .before .before .before .args .rest .now) (c .size-at .result) (c .before .before .before .before .before .before .pre .0) (c .size-at .ensures))
-    ∙ sym (ap lexedOf (dot-other (c .before .before .before .before .before .before .args .rest .now) (omega (arith, c .before .before .before .before .before .before .pre .0, c .before .before .before .before .if1 .left)) (c .before .before .before .before .before .before .pre .1) (c .before .before .if2 .taken)))
+    let at-byte = c .before .before .before in
+    let start = at-byte .before .before in
+    sym (ap lexedOf (two-dots (start .args .rest .now) (start .pre .1) (sym (at-byte .byte-at .ensures) ∙ c .before .before .if1 .left) (λ e. c .if2 .taken (c .before .byte-at2 .ensures ∙ e))))
 
 returns-3 : tie.Need-returns-3
 unfolding lexedOf
-returns-3 c = sym (ap lexedOf (dots-end (c .before .before .before .before .before .args .rest .now) (c .if3 .taken) (c .before .before .before .before .before .pre .1) (c .before .if2 .left)))
-
-shared-slice-read-if4 : tie.Need-shared-slice-read-if4
-shared-slice-read-if4 c = search needs
-
-returns-4 : tie.Need-returns-4
-unfolding lexedOf
-returns-4 c = sym (ap lexedOf (three-dots (c .before .before .before .before .before .before .before .args .rest .now) (omega (arith, c .before .before .before .before .before .before .before .pre .0, c .before .before .before .before .before .if1 .left, c .before .before .if3 .left)) (c .before .before .before .before .before .before .before .pre .1) (c .before .before .before .if2 .left) (c .if4 .taken)))
-
-returns-5 : tie.Need-returns-5
-unfolding lexedOf
-returns-5 c = sym (ap lexedOf (dots-other (c .before .before .before .before .before .before .before .args .rest .now) (omega (arith, c .before .before .before .before .before .before .before .pre .0, c .before .before .before .before .before .if1 .left, c .before .before .if3 .left)) (c .before .before .before .before .before .before .before .pre .1) (c .before .before .before .if2 .left) (c .if4 .left)))
+returns-3 c =
+    let at-byte = c .before .before .before in
+    let start = at-byte .before .before in
+    sym (ap lexedOf (three-dots (start .args .rest .now) (start .pre .1) (sym (at-byte .byte-at .ensures) ∙ c .before .before .if1 .left) (sym (c .before .byte-at2 .ensures) ∙ c .if2 .left)))
 
 pub spread-operator-spec : {M : Type 1} → statement M
 spread-operator-spec =
     tie.close
     (tie.spec
-    returns
-    shared-slice-read-if2
+    byte-at-requires
     sub-size-at
     part-size-at-start
     part-size-at-end
     size-at-requires
     add-size
+    returns
+    byte-at-requires-2
     returns-2
-    returns-3
-    shared-slice-read-if4
-    returns-4
-    returns-5)
+    returns-3)
