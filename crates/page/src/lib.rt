@@ -1,5 +1,6 @@
 // A page for a browser: the text with each item in a span of its kind's class, and the nodes of a selection set around them. The page's head, with
 // the style, is lent on descriptor 5 (page/head.html). Whatever comes from the text or from the name goes through `put_shown`, as a page's.
+#![tactic(auto)]
 ghost use Rattle.std.specs.Prelude.{◌≡◌};
 ghost use Rattle.base.specs.Text.{from};
 ghost use Rattle.codes.specs.Refusals.{depth_limit, item_tape_full};

@@ -1,4 +1,5 @@
 // What the program prints, and how: the output's buffer, characters, lines and columns, names and words, reports; and the entries that they tell of.
+#![tactic(auto)]
 mod characters;
 mod entries;
 mod lines;

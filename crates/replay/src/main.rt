@@ -5,6 +5,7 @@
 // 4 bytes length of the text, the text.
 // An answer: number, place, item count and event count, 8 bytes each, then all bytes of both tapes, which hold A5 before the call. A part:
 // 8 bytes length, then the bytes.
+#![tactic(auto)]
 ghost use Rattle.std.specs.Prelude.{◌+◌, ◌≤◌, ◌<◌, length};
 
 use libc::{STDERR_FILENO, STDIN_FILENO, STDOUT_FILENO};

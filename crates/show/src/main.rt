@@ -2,6 +2,7 @@
 //
 // The script needs to know how the run ended, and a program has no exit status: so the last thing that it writes is a digit on descriptor 3, where it
 // is told to. 0: all was read; 1: there was a refusal or an error item; 2: the text was not read; 3: a part whose span passes the text's end.
+#![tactic(auto)]
 mod asked;
 mod input;
 
