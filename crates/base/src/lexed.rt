@@ -4,7 +4,7 @@ ghost use Rattle.base.specs.Lexed.{code_of, size_of};
 
 use codes::item;
 
-#[derive(Drop)]
+#[derive(Clone, Copy)]
 pub enum Lexed {
     Token { kind: u8, size: usize },
     Error { fault: u8, size: usize },

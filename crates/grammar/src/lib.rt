@@ -14,7 +14,7 @@ use parser::Step;
 use reader::Answer;
 
 // What a text is read as.
-#[derive(Drop)]
+#[derive(Clone, Copy)]
 pub enum Entry {
     Value,
     Constant,

@@ -13,7 +13,7 @@ use reader::Answer;
 use tape::Entry;
 
 // The output's place, and how many nodes are open.
-#[derive(Drop)]
+#[derive(Clone, Copy)]
 struct Nest {
     at: usize,
     open: usize,

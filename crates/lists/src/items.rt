@@ -12,7 +12,7 @@ use print::{
 use tape::Entry;
 
 // What a pass over the items carries along: the output's place, how many error items there were, and the place in the text.
-#[derive(Drop)]
+#[derive(Clone, Copy)]
 struct Walk {
     at: usize,
     errors: usize,
@@ -20,7 +20,7 @@ struct Walk {
 }
 
 // How far a pass has come: the reader's number, the first unread byte, and how many items were given.
-#[derive(Drop)]
+#[derive(Clone, Copy)]
 struct Pass {
     walk: Walk,
     number: usize,

@@ -8,14 +8,14 @@ use print::{put, put_hex2, put_hex7, put_number, put_shown, put_times};
 use tape::Entry;
 
 // Tape words instead of rows, and colour.
-#[derive(Drop)]
+#[derive(Clone, Copy)]
 pub struct Style {
     pub words: bool,
     pub colour: bool,
 }
 
 // The output's place after a list, and whether there was a refusal or an error item.
-#[derive(Drop)]
+#[derive(Clone, Copy)]
 pub struct Listed {
     pub at: usize,
     pub refused: bool,

@@ -1,5 +1,6 @@
 // Classes of bytes: `class` decides, and the rest of the lexer asks it.
 #![tactic(auto)]
+
 ghost use Rattle.std.specs.Prelude.{◌≡◌};
 ghost use Rattle.rules.specs.Classes.{digit, name_start, name_continue};
 ghost use Rattle.lookup.specs.Class.{punctuation_of, class_of};

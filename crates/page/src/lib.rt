@@ -20,7 +20,7 @@ const LAST_CLOSING: u8 = node::TOKEN - 1;
 const LAST: u8 = item::ERROR + codes::error::BAD_BRACED_ESCAPE;
 
 // The output's place, and the next event.
-#[derive(Drop)]
+#[derive(Clone, Copy)]
 struct Mark {
     at: usize,
     event: usize,
@@ -145,7 +145,7 @@ fn put_legend(out: &mut [u8; 65536], at: usize, items: &[u8], count: usize) -> u
 }
 
 // An error item's entry in the list of errors: it leads to the item.
-#[derive(Drop)]
+#[derive(Clone, Copy)]
 struct Listed {
     at: usize,
     spot: Spot,

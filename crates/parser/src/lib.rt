@@ -25,7 +25,7 @@ pub const ON: u8 = 25;
 const NAME_TOKEN: u8 = node::TOKEN + item::NAME;
 
 // A token: its kind, its first byte, its size, and the item number after it.
-#[derive(Drop)]
+#[derive(Clone, Copy)]
 pub struct Peeked {
     pub kind: u8,
     pub start: usize,
@@ -35,7 +35,7 @@ pub struct Peeked {
 
 // What reading a part of the grammar gives: the item number after it, where its last token ended, and the number of events so far; or a
 // refusal and its place.
-#[derive(Drop)]
+#[derive(Clone, Copy)]
 pub enum Step {
     Done { next: usize, end: usize, out: usize },
     Stop { number: usize, place: usize },

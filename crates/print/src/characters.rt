@@ -7,7 +7,7 @@ ghost use Rattle.print.specs.Characters.{seen_at, hidden, broad};
 use crate::output::{put, put_all, put_form, put_hex, put_hex2};
 
 // A character's number and size; a byte that begins none has its own value, and `whole` is false.
-#[derive(Drop)]
+#[derive(Clone, Copy)]
 pub struct Seen {
     pub value: u32,
     pub size: usize,

@@ -6,7 +6,7 @@ use crate::characters::{Seen, character_at, columns, past, put_character, put_mo
 use crate::output::{put, put_times, sum};
 
 // A byte's place as an editor counts it, and where its line starts.
-#[derive(Drop)]
+#[derive(Clone, Copy)]
 pub struct Spot {
     pub byte: usize,
     pub line: usize,

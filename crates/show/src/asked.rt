@@ -4,7 +4,7 @@
 // colour, tell the status on descriptor 3, the stack has room for a text of over 65,536 bytes, the text is known to be so long. LIMIT and DEPTH are decimal; for a part they are start and length.
 // NAME is what a page calls the text.
 #[repr(C)]
-#[derive(Drop)]
+#[derive(Clone, Copy)]
 pub struct Asked {
     pub entry: u8,
     pub words: bool,

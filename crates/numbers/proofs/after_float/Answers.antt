@@ -1,0 +1,18 @@
+-- `numbers::after_float` meets its contract, by its tests. Assumes nothing.
+use mathlib.Core.Path.{sym, ◌∙◌}
+use borrow.Author.Rules.{rules}
+use Rattle.base.proofs.Rules.{tests}
+use Rattle.numbers.specs.Number.{after_float}
+use Rattle.numbers.proofs.after_float.Goals as goal
+
+pub returns-then-b-eq46 : goal.returns-then-b-eq46
+unfolding after_float
+returns-then-b-eq46 c = search (rules, tests)
+
+pub returns-then-is_namestart : goal.returns-then-is_namestart
+unfolding after_float
+returns-then-is_namestart c = search (rules, tests, sym c.is_namestart.ensures ∙ c.if-is_namestart.true)
+
+pub returns : goal.returns
+unfolding after_float
+returns c = search (rules, tests, sym c.is_namestart.ensures ∙ c.if-is_namestart.false)
