@@ -6,8 +6,6 @@ use Prim.Native.Nat.{ℕ, suc, ◌+◌, ◌≤◌, zero-le}
 use native.Mathlib.Nat.{add-zero, zero-add}
 use native.Mathlib.Omega.{arith}
 use borrow.Author.Tests.{not-true}
-use denote.Enum.Declared.{tag_of}
-use types.Run.{OneOf, miss}
 use lib.Dec.{eqb}
 use lib.ListN.{length, drop, length-drop}
 use lib.Seq.{drop-drop}
@@ -18,7 +16,6 @@ use Rattle.base.proofs.Tests.{and_true}
 use Rattle.base.proofs.Runs.{run_fits}
 use Rattle.rules.specs.Classes.{line_end, plain_character}
 use Rattle.strings.specs.declared.StringState.{StringState}
-use Rattle.strings.specs.contracts.StringState.{the_type}
 use Rattle.strings.specs.declared.StringState.TheVariants.{StringLiteralStart, StringLiteral, StringLiteralBackslash, StringLiteralEscapedUnicode, StringLiteralEscapedUnicodeVariable, StringLiteralLeadSurrogate, StringLiteralLeadSurrogateBackslash}
 use Rattle.strings.specs.declared.StringStep.TheVariants.{Go}
 use Rattle.strings.specs.String.{in_text, string_step, later_of, further, quoted_from, plain_run}
@@ -78,15 +75,11 @@ plain_fits StringLiteralLeadSurrogateBackslash t = zero-le
 pub plain_within : (s : StringState) (i : ℕ) (t : List ℕ) → i ≤ length t → i + plain_run s (drop i t) ≤ length t
 plain_within s i t h = omega (arith, plain_fits s (drop i t), length-drop i t)
 
--- the tags of the states other than plain text
-abbrev pub others : List ℕ
-others = 0 ∷ 2 ∷ 3 ∷ 4 ∷ 5 ∷ 6 ∷ []
-
 -- in these no byte is passed
-pub plain_none : (s : StringState) (t : List ℕ) → OneOf others (tag_of the_type s) → plain_run s t ≡ 0
+pub plain_none : (s : StringState) (t : List ℕ) → (s ≡ StringLiteral → ⊥) → plain_run s t ≡ 0
 unfolding plain_run
 plain_none StringLiteralStart t k = refl
-plain_none StringLiteral t k = absurd (miss others 1 tt k)
+plain_none StringLiteral t k = absurd (k refl)
 plain_none StringLiteralBackslash t k = refl
 plain_none (StringLiteralEscapedUnicode r v p) t k = refl
 plain_none (StringLiteralEscapedUnicodeVariable v d) t k = refl

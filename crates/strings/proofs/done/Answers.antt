@@ -1,0 +1,14 @@
+-- `strings::done` meets its contract. Assumes nothing.
+use native.Mathlib.Omega.{arith}
+use borrow.Author.Tests.{eq-eqb, ne_eqb}
+use Rattle.strings.specs.String.{done_code}
+use Rattle.base.proofs.Found.{token_lexed, error_lexed}
+use Rattle.strings.proofs.done.Goals as goal
+
+pub returns-then-fault-ne-NONE : goal.returns-then-fault-ne-NONE
+unfolding done_code
+returns-then-fault-ne-NONE c = rw (ne_eqb _ 0 c.if-fault-ne-NONE.true) (error_lexed _ _)
+
+pub returns : goal.returns
+unfolding done_code
+returns c = rw (eq-eqb _ 0 c.if-fault-ne-NONE.false) (token_lexed 19 _ (omega arith))

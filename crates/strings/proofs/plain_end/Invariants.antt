@@ -1,0 +1,18 @@
+-- INV
+use Prim.Native.Nat.{◌+◌, ◌-◌, ◌≤◌}
+use mathlib.Core.Path.{◌≡◌, sym, ◌∙◌}
+use native.Mathlib.Omega.{arith}
+use native.Mathlib.Numerals.{add-one}
+use borrow.Author.Rules.{rules}
+use borrow.Author.Tests.{not-true, not-false}
+use lib.ListN.{length, drop}
+use Rattle.base.specs.Run.{run}
+use Rattle.base.proofs.Runs.{run_here, run_stop, run_over}
+use Rattle.rules.specs.Classes.{plain_character}
+use Rattle.strings.proofs.plain_end.Given as goal
+
+abbrev pub invariant-loop-j : goal.invariant-loop-j
+invariant-loop-j l = (l.j ≤ length l.s) × (l.i + run plain_character (drop l.i l.s) ≡ l.j + run plain_character (drop l.j l.s))
+
+abbrev pub decreases-loop-j : goal.decreases-loop-j
+decreases-loop-j l = length l.s - l.j
