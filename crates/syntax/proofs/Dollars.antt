@@ -7,7 +7,8 @@ use mathlib.Core.Bool.{Bool, true}
 use mathlib.Core.List.{List, [], ◌∷◌, ◌++◌, append_assoc, append-nil}
 use borrow.Author.Tests.{eq-eqb}
 use Rattle.base.specs.Item.{Item}
-use Rattle.syntax.specs.Token.{eof, dollar, int, is_name, is_enum, is_fragment_name, Token, token, end_of}
+use Rattle.codes.specs.EventCodes as nodes
+use Rattle.syntax.specs.Token.{eof, dollar, int, is_name, is_enum, is_fragment_name, Token, token, end_of, opens, closes, name_events}
 use Rattle.syntax.specs.Grammar.{Span, of, Value, value_tokens, value_events, value_depth}
 use Rattle.syntax.specs.Machine.{Sym, value, deeper, items, fields, name, colon_due, close, selection_set, opt_selection_set, first_selection, selections, named, spread, opt_arguments, first_argument, arguments, opt_directives, directives, named_type, Move, go, stop, halt, also, at_value, at_items, at_fields, at_name, at_colon, at_named_type, or_selection_set, or_selection, at_selections, or_arguments, or_argument, at_arguments, or_directive, at_spread, step, refused, accepted, emits, run, read_constant}
 use Rattle.syntax.proofs.Steps.{emits_emits, emits_none, emits_accepted}
@@ -37,19 +38,20 @@ instead l (items (suc r) q ∷ K) s a b = eight
 instead l (fields r q ∷ K) s a b = nine
 instead l (name ∷ K) s a b = nine
 instead l (colon_due ∷ K) s a b = nine
-instead l (close n q ∷ K) s a b = instead_also _ (instead l K s a b)
+instead l (close n q ∷ K) s a b = instead_also (closes n q l ∷ []) (instead l K s a b)
 instead l (selection_set r ∷ K) s a b = nine
 instead l (opt_selection_set r ∷ K) s a b = instead l K s a b
 instead l (first_selection zero q ∷ K) s a b = seven
 instead l (first_selection (suc r) q ∷ K) s a b = nine
 instead l (selections r q ∷ K) s a b = nine
-instead l (named r n ∷ K) s a b = instead_also _ (instead_also _ (instead l K s a b))
+instead l (named r n ∷ K) s a b =
+    instead_also (opens nodes.field n.start ∷ name_events n) (instead_also (closes nodes.field n.start l ∷ []) (instead l K s a b))
 instead l (spread r d ∷ K) s a b = nine
 instead l (opt_arguments r ∷ K) s a b = instead l K s a b
 instead l (first_argument r q ∷ K) s a b = nine
 instead l (arguments r q ∷ K) s a b = nine
 instead l (opt_directives r ∷ K) s a b = instead l K s a b
-instead l (directives r q ∷ K) s a b = instead_also _ (instead l K s a b)
+instead l (directives r q ∷ K) s a b = instead_also (closes nodes.directives q l ∷ []) (instead l K s a b)
 instead l (named_type ∷ K) s a b = nine
 
 -- only Eof ends a reading
