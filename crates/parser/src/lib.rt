@@ -1,5 +1,6 @@
 // The parser's view of an item tape as tokens, and of an event tape. Ignored items are passed over.
 #![tactic(auto)]
+
 ghost use Rattle.std.specs.Prelude.{◌≡◌, ◌+◌, ◌-◌, ◌^◌, ◌≤◌, ◌<◌, leb, [], ◌∷◌, ◌++◌, length};
 ghost use Rattle.base.specs.Text.{pick};
 ghost use Rattle.base.specs.Item.{item};
