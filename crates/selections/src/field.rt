@@ -96,7 +96,7 @@ fn brace_follows(text: &[u8], items: &[u8], step: Step) -> bool
 }
 
 // A field, whose first name is the token.
-#[cycle(field_inline_fragment_selection_selection_set_then_selection_set)]
+#[cycle(selections)]
 pub fn field(
     text: &[u8],
     items: &[u8],

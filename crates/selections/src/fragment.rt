@@ -101,7 +101,7 @@ fn fragment_head(
 }
 
 // An inline fragment, whose `...` is `dots`; the token follows it, and is no fragment's name.
-#[cycle(field_inline_fragment_selection_selection_set_then_selection_set)]
+#[cycle(selections)]
 pub fn inline_fragment(
     text: &[u8],
     items: &[u8],

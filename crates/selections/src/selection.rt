@@ -22,7 +22,7 @@ fn begins_selection(kind: u8) -> bool
 }
 
 // A selection, whose first token is the token.
-#[cycle(field_inline_fragment_selection_selection_set_then_selection_set)]
+#[cycle(selections)]
 fn selection(
     text: &[u8],
     items: &[u8],
@@ -47,7 +47,7 @@ fn selection(
 }
 
 // A selection set, whose `{` is the token.
-#[cycle(field_inline_fragment_selection_selection_set_then_selection_set)]
+#[cycle(selections)]
 fn selection_set(
     text: &[u8],
     items: &[u8],
@@ -110,7 +110,7 @@ fn selection_set(
 }
 
 // A selection set is due where the step stands.
-#[cycle(field_inline_fragment_selection_selection_set_then_selection_set)]
+#[cycle(selections)]
 pub fn then_selection_set(
     text: &[u8],
     items: &[u8],

@@ -129,7 +129,7 @@ fn too_deep(token: Peeked) -> Step
 
 // A type but for its `!`, whose first token is given, with so much depth left: what follows its item types is noted, and its events are those
 // that the notes say.
-#[cycle(base_type_walk)]
+#[cycle(types)]
 fn base_type(
     text: &[u8],
     items: &[u8],
@@ -172,7 +172,7 @@ fn base_type(
 }
 
 // A type, with so much depth left: what follows it but for its `!` is noted, and its events are those that the notes say.
-#[cycle(base_type_walk)]
+#[cycle(types)]
 fn walk(
     text: &[u8],
     items: &[u8],

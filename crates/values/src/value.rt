@@ -51,7 +51,7 @@ fn enum_value(token: Peeked, events: &mut [u8], out: usize) -> usize
 }
 
 // A value is due, with so much depth left; only a constant may stand there if `constant`.
-#[cycle(list_value_object_field_object_value_value)]
+#[cycle(values)]
 pub fn value(
     text: &[u8],
     items: &[u8],
@@ -104,7 +104,7 @@ pub fn value(
 }
 
 // A list value, whose `[` is the token: its items are a loop.
-#[cycle(list_value_object_field_object_value_value)]
+#[cycle(values)]
 fn list_value(
     text: &[u8],
     items: &[u8],
@@ -173,7 +173,7 @@ fn field_name(text: &[u8], items: &[u8], token: Peeked, events: &mut [u8], out: 
 }
 
 // An object field, whose name is the token.
-#[cycle(list_value_object_field_object_value_value)]
+#[cycle(values)]
 fn object_field(
     text: &[u8],
     items: &[u8],
@@ -219,7 +219,7 @@ fn object_field(
 }
 
 // An object value, whose `{` is the token: its fields are a loop.
-#[cycle(list_value_object_field_object_value_value)]
+#[cycle(values)]
 fn object_value(
     text: &[u8],
     items: &[u8],
