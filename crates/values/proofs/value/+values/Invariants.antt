@@ -1,4 +1,4 @@
--- Depth falls from a value to the values in it; at one depth a list or an object comes after the value that it is, and a field after its object.
+-- Depth falls from a value to the values in it; at one depth a list or an object comes after the value that it is, and a field after its object. Assumes nothing.
 use Rattle.std.proofs.Common.{◌≡◌, [], ◌∷◌, ◌+◌, ◌-◌, ◌*◌, ◌<◌, length}
 use Rattle.rules.specs.Items.{items as items_of}
 use Rattle.syntax.specs.Machine.{items as items_due, fields}
