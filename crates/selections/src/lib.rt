@@ -1,5 +1,6 @@
 // Selection sets, with fields, aliases, arguments, directives and fragments. Siblings are loops; only depth recurses.
 #![tactic(auto)]
+
 mod argument;
 mod directive;
 mod field;
