@@ -33,7 +33,7 @@ first_within (x ∷ xs) =
 item_number : {t : List ℕ} {limit : ℕ} {tape : List ℕ} {n : ℕ} → reader.Row t limit tape n → (n ≡ 0 → ⊥) → (2 ≤ n) × (n ≤ 5)
 item_number (reader.Row.done h l) z = absurd (z refl)
 item_number (reader.Row.too_long h) z = (omega arith, omega arith)
-item_number (reader.Row.ill_formed_lem h k) z = (omega arith, omega arith)
+item_number (reader.Row.ill_formed h k) z = (omega arith, omega arith)
 item_number (reader.Row.at_limit h l r) z = (omega arith, omega arith)
 item_number (reader.Row.at_room h l r) z = (omega arith, omega arith)
 

@@ -1,5 +1,6 @@
 // The grammar's entries: reading items first, then what the entry names, filling the whole text. The events are counted before any is written.
 #![tactic(auto)]
+
 ghost use Rattle.std.specs.Prelude.{◌≡◌, ◌≤◌, length};
 ghost use Rattle.codes.specs.Refusals.{deepest};
 ghost use Rattle.tape.specs.Entry.{room};

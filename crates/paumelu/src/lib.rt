@@ -1,5 +1,6 @@
 // Paumelu: a GraphQL reader whose every answer is proved. The entries, and the C interface. Nothing is decided here.
 #![tactic(auto)]
+
 ghost use Rattle.std.specs.Prelude.{◌≡◌};
 ghost use Rattle.grammar.specs.declared.Entry.TheVariants.{Value, Constant, Ty, SelectionSet};
 ghost use Rattle.grammar.specs.Answers.{grammar_answer, grammar_items, grammar_events};

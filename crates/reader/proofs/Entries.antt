@@ -14,9 +14,9 @@ use Rattle.reader.specs.Answers.{answer, longest, given_answer, given_tape, answ
 
 module _ (t : List ℕ) (limit : ℕ) (tape : List ℕ) where
   -- 2
-  pub too_long_lem : longest < length t → (answer 2 0 0 0 ≡ answer_of t limit tape) × (tape ≡ tape_of t limit tape)
+  pub too_long : longest < length t → (answer 2 0 0 0 ≡ answer_of t limit tape) × (tape ≡ tape_of t limit tape)
   unfolding answer_of tape_of
-  too_long_lem h = (rw (lt-ltb longest (length t) h), rw (lt-ltb longest (length t) h))
+  too_long h = (rw (lt-ltb longest (length t) h), rw (lt-ltb longest (length t) h))
 
   -- 3
   pub not_utf8_lem : (r : Checked) (number place : ℕ) → length t ≤ longest → r ≡ checked_of t → r ≡ Refused number place

@@ -49,8 +49,8 @@ pub record Readable (t : List ℕ) : Type 0 where
 -- the row of the table with this number
 pub data Row (t : List ℕ) (limit : ℕ) (tape : List ℕ) : ℕ → Type 0 where
   done : Readable t → length (items t) ≤ min limit (room tape) → Row t limit tape 0
-  too_long_lem : longest < length t → Row t limit tape 2
-  ill_formed_lem : length t ≤ longest → (Utf8 t → ⊥) → Row t limit tape 3
+  too_long : longest < length t → Row t limit tape 2
+  ill_formed : length t ≤ longest → (Utf8 t → ⊥) → Row t limit tape 3
   at_limit : Readable t → limit < length (items t) → limit ≤ room tape → Row t limit tape 4
   at_room : Readable t → room tape < length (items t) → room tape < limit → Row t limit tape 5
 
@@ -69,7 +69,7 @@ module _ (t : List ℕ) (limit : ℕ) (tape : List ℕ) where
       ((reads h).0 ∙ rw (le-leb (length (items t)) (min limit (room tape)) l), (reads h).1 ∙ rw (take_all (min limit (room tape)) (items t) l))
 
   pub row_2 : longest < length t → (answer_of t limit tape ≡ answer 2 0 0 0) × (tape_of t limit tape ≡ tape)
-  row_2 h = let e = checks.too_long_lem t limit tape h in (sym e.0, sym e.1)
+  row_2 h = let e = checks.too_long t limit tape h in (sym e.0, sym e.1)
 
   pub row_3 : length t ≤ longest → (Utf8 t → ⊥) → (answer_of t limit tape ≡ answer 3 (well_formed t) 0 0) × (tape_of t limit tape ≡ tape)
   row_3 h n =
@@ -93,18 +93,18 @@ module _ (t : List ℕ) (limit : ℕ) (tape : List ℕ) where
   -- the row has its number
   pub numbered : {n : ℕ} → Row t limit tape n → (answer_of t limit tape).number ≡ n
   numbered (done h l) = ap (λ (a : Answer). a.number) (row_0 h l).0
-  numbered (too_long_lem h) = ap (λ (a : Answer). a.number) (row_2 h).0
-  numbered (ill_formed_lem h n) = ap (λ (a : Answer). a.number) (row_3 h n).0
+  numbered (too_long h) = ap (λ (a : Answer). a.number) (row_2 h).0
+  numbered (ill_formed h n) = ap (λ (a : Answer). a.number) (row_3 h n).0
   numbered (at_limit h l r) = ap (λ (a : Answer). a.number) (row_4 h l r).0
   numbered (at_room h l r) = ap (λ (a : Answer). a.number) (row_5 h l r).0
 
   -- some row holds
   some_row : (n : ℕ) × Row t limit tape n
   some_row =
-      by (ltb longest (length t)) (λ e. (2, too_long_lem (ltb-true longest (length t) e))) (λ e.
+      by (ltb longest (length t)) (λ e. (2, too_long (ltb-true longest (length t) e))) (λ e.
       let h = ltb-false longest (length t) e in
       by (eqb (well_formed t) (length t)) (λ q. admitted (record { short = h; utf8 = (utf8_exact t).1 (eqb-true _ _ q) }))
-      (λ q. (3, ill_formed_lem h (λ u. eqb-false _ _ q ((utf8_exact t).0 u)))))
+      (λ q. (3, ill_formed h (λ u. eqb-false _ _ q ((utf8_exact t).0 u)))))
     where
       admitted : Readable t → (n : ℕ) × Row t limit tape n
       admitted h =
@@ -128,8 +128,8 @@ pub record ExactlyWhen (t : List ℕ) (limit : ℕ) (tape : List ℕ) : Type 0 w
 pub exactly_when : (t : List ℕ) (limit : ℕ) (tape : List ℕ) → ExactlyWhen t limit tape
 exactly_when t limit tape = record {
   n0 = (λ e. zero (rw e at (row t limit tape)), λ h. numbered t limit tape (done h.0 h.1));
-  n2 = (λ e. two (rw e at (row t limit tape)), λ h. numbered t limit tape (too_long_lem h));
-  n3 = (λ e. three (rw e at (row t limit tape)), λ h. numbered t limit tape (ill_formed_lem h.0 h.1));
+  n2 = (λ e. two (rw e at (row t limit tape)), λ h. numbered t limit tape (too_long h));
+  n3 = (λ e. three (rw e at (row t limit tape)), λ h. numbered t limit tape (ill_formed h.0 h.1));
   n4 = (λ e. four (rw e at (row t limit tape)), λ h. numbered t limit tape (at_limit h.0 h.1 h.2));
   n5 = (λ e. five (rw e at (row t limit tape)), λ h. numbered t limit tape (at_room h.0 h.1 h.2));
 }
@@ -138,10 +138,10 @@ exactly_when t limit tape = record {
     zero (done h l) = (h, l)
 
     two : Row t limit tape 2 → longest < length t
-    two (too_long_lem h) = h
+    two (too_long h) = h
 
     three : Row t limit tape 3 → (length t ≤ longest) × (Utf8 t → ⊥)
-    three (ill_formed_lem h n) = (h, n)
+    three (ill_formed h n) = (h, n)
 
     four : Row t limit tape 4 → Readable t × (limit < length (items t)) × (limit ≤ room tape)
     four (at_limit h l r) = (h, l, r)
@@ -192,10 +192,10 @@ module _ (t : List ℕ) (limit : ℕ) (tape : List ℕ) where
   stay_by (done h l) =
       let r = row_0 t limit tape h l in
       record { roomy = rw r.0 (omega arith); short = λ _. h.short; written = rw (r.0, take-length) r.1; events = rw r.0 }
-  stay_by (too_long_lem h) =
+  stay_by (too_long h) =
       let r = row_2 t limit tape h in
       record { roomy = rw r.0 (omega arith); short = rw r.0 (λ p. absurd (omega arith)); written = rw r.0 r.1; events = rw r.0 }
-  stay_by (ill_formed_lem h n) =
+  stay_by (ill_formed h n) =
       let r = row_3 t limit tape h n in
       record { roomy = rw r.0 (omega arith); short = λ _. h; written = rw r.0 r.1; events = rw r.0 }
   stay_by (at_limit h l k) =

@@ -1,10 +1,10 @@
 -- `reader::read_items` meets its contract: the table row by row. Assumes nothing.
-use Rattle.reader.proofs.Entries.{too_long_lem, not_utf8_lem, read}
+use Rattle.reader.proofs.Entries.{too_long, not_utf8_lem, read}
 use borrow.Author.Rules.{rules}
 use Rattle.reader.proofs.read_items.Goals as goal
 
 pub returns-then-text-gt-LONGEST : goal.returns-then-text-gt-LONGEST
-returns-then-text-gt-LONGEST c = let both = too_long_lem c.args.text.now c.args.limit c.args.tape.now c.if-text-gt-LONGEST.true in
+returns-then-text-gt-LONGEST c = let both = too_long c.args.text.now c.args.limit c.args.tape.now c.if-text-gt-LONGEST.true in
     record {
       answer = both.0;
       tape = both.1;

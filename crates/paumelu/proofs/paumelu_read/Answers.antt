@@ -1,0 +1,26 @@
+-- `paumelu::paumelu_read` meets its contract: it hands the answer over, field by field. Assumes nothing.
+use mathlib.Core.Path.{ap}
+use Rattle.reader.specs.declared.Answer.{Answer}
+use Rattle.paumelu.proofs.Codes.{unknown_entry, item_entry}
+use borrow.Author.Rules.{rules}
+use Rattle.paumelu.proofs.paumelu_read.Goals as goal
+
+pub returns-then-entry-ne-READ_ITEMS : goal.returns-then-entry-ne-READ_ITEMS
+returns-then-entry-ne-READ_ITEMS c = let e = unknown_entry c.args.entry c.args.text.now c.args.limit c.args.tape.now c.if-entry-ne-READ_ITEMS.true in
+    record {
+      number = ap (λ (a : Answer). a.number) e.0;
+      place = ap (λ (a : Answer). a.place) e.0;
+      items = ap (λ (a : Answer). a.items) e.0;
+      events = ap (λ (a : Answer). a.events) e.0;
+      tape = e.1;
+    }
+
+pub returns : goal.returns
+returns c = let e = item_entry c.args.entry c.args.text.now c.args.limit c.args.tape.now c.if-entry-ne-READ_ITEMS.false _ _ c.read_items-a.ensures.answer c.read_items-a.ensures.tape in
+    record {
+      number = ap (λ (a : Answer). a.number) e.0;
+      place = ap (λ (a : Answer). a.place) e.0;
+      items = ap (λ (a : Answer). a.items) e.0;
+      events = ap (λ (a : Answer). a.events) e.0;
+      tape = e.1;
+    }
