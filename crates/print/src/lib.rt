@@ -1,5 +1,6 @@
 // What the program prints, and how: the output's buffer, characters, lines and columns, names and words, reports; and the entries that they tell of.
 #![tactic(auto)]
+
 mod characters;
 mod entries;
 mod lines;

@@ -4,7 +4,8 @@ ghost use Rattle.std.specs.Prelude.{◌≡◌, true, ◌+◌, ◌-◌, ◌^◌, 
 ghost use Rattle.io.specs.Digits.{IsDigitCount};
 ghost use Rattle.print.specs.Place.{Place};
 
-use libc::STDOUT_FILENO;
+// The descriptor of standard output.
+const STDOUT: i32 = 1;
 
 const CLOSED: usize = 65537;
 
@@ -19,7 +20,7 @@ pub fn put(out: &mut [u8; 65536], at: usize, b: u8) -> usize
     if at > 65536 {
         return at;
     }
-    if !io::write_all(STDOUT_FILENO, out) {
+    if !io::write_all(STDOUT, out) {
         return CLOSED;
     }
     out[0] = b;
@@ -238,7 +239,7 @@ pub fn put_colour(out: &mut [u8; 65536], at: usize, colour: bool, which: usize) 
 }
 
 fn write_first(s: &[u8], count: usize) -> bool {
-    io::write_all(STDOUT_FILENO, reader::part(s, 0, count))
+    io::write_all(STDOUT, reader::part(s, 0, count))
 }
 
 // Writes what the buffer holds. Says whether all that was put has been written.

@@ -6,13 +6,18 @@
 // An answer: number, place, item count and event count, 8 bytes each, then all bytes of both tapes, which hold A5 before the call. A part:
 // 8 bytes length, then the bytes.
 #![tactic(auto)]
+
 ghost use Rattle.std.specs.Prelude.{◌+◌, ◌≤◌, ◌<◌, length};
 
-use libc::{STDERR_FILENO, STDIN_FILENO, STDOUT_FILENO};
+const STDIN: i32 = 0;
+
+const STDOUT: i32 = 1;
+
+const STDERR: i32 = 2;
 
 // One clear line on standard error, and the run ends.
 fn refuse(line: &[u8]) -> bool {
-    io::write_all(STDERR_FILENO, line);
+    io::write_all(STDERR, line);
     false
 }
 
@@ -64,23 +69,23 @@ fn write_answer(a: paumelu::Answer, items: &[u8], events: &[u8]) -> bool {
     put_number(&mut out, 8, a.place as u64);
     put_number(&mut out, 16, a.items as u64);
     put_number(&mut out, 24, a.events as u64);
-    if !io::write_all(STDOUT_FILENO, &out) {
+    if !io::write_all(STDOUT, &out) {
         return false;
     }
-    if !io::write_all(STDOUT_FILENO, items) {
+    if !io::write_all(STDOUT, items) {
         return false;
     }
-    io::write_all(STDOUT_FILENO, events)
+    io::write_all(STDOUT, events)
 }
 
 fn write_part(text: &[u8], start: u64, length: u64) -> bool {
     let part = paumelu::part(text, start as usize, length as usize);
     let mut out = [0u8; 8];
     put_number(&mut out, 0, part.len() as u64);
-    if !io::write_all(STDOUT_FILENO, &out) {
+    if !io::write_all(STDOUT, &out) {
         return false;
     }
-    io::write_all(STDOUT_FILENO, part)
+    io::write_all(STDOUT, part)
 }
 
 // Reads through the C interface: its three outputs hold A5 in every byte before the call.
@@ -158,7 +163,7 @@ fn answer(
 // Reads and answers one case; false where the run ends.
 fn one_case(text: &mut [u8], items: &mut [u8], events: &mut [u8]) -> bool {
     let mut head = [0u8; 29];
-    let got = io::read_full(STDIN_FILENO, &mut head);
+    let got = io::read_full(STDIN, &mut head);
     if got == 0 {
         return false;
     }
@@ -180,7 +185,7 @@ fn one_case(text: &mut [u8], items: &mut [u8], events: &mut [u8]) -> bool {
     if events.len() < event_bytes {
         return refuse(b"replay: an event tape of over 2,097,152 bytes\n");
     }
-    if io::read_full(STDIN_FILENO, &mut text[..text_bytes]) < text_bytes {
+    if io::read_full(STDIN, &mut text[..text_bytes]) < text_bytes {
         return refuse(b"replay: a case is cut short\n");
     }
     answer(

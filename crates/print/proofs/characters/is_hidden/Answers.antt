@@ -1,0 +1,6 @@
+-- `print::characters::is_hidden` meets its contract, range by range. Assumes nothing.
+use borrow.Author.Rules.{rules}
+use Rattle.print.proofs.characters.is_hidden.Goals as goal
+
+pub returns : goal.returns
+returns c = cc
