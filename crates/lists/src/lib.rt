@@ -1,5 +1,6 @@
 // Lists for people: the items of a text and the events of a text, a row each, and after them what was refused.
 #![tactic(auto)]
+
 mod events;
 mod items;
 mod row;

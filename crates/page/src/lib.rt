@@ -1,6 +1,7 @@
 // A page for a browser: the text with each item in a span of its kind's class, and the nodes of a selection set around them. The page's head, with
 // the style, is lent on descriptor 5 (page/head.html). Whatever comes from the text or from the name goes through `put_shown`, as a page's.
 #![tactic(auto)]
+
 ghost use Rattle.std.specs.Prelude.{◌≡◌};
 ghost use Rattle.base.specs.Text.{from};
 ghost use Rattle.codes.specs.Refusals.{depth_limit, item_tape_full};
@@ -12,8 +13,11 @@ use print::{
     put_kind_name, put_refused, put_shown, sum,
 };
 use reader::Answer;
+use std::env::Env;
 use tape::Entry;
 
+// The descriptor on which the head is lent.
+const HEAD: i32 = 5;
 // The last code of an event that closes a node.
 const LAST_CLOSING: u8 = node::TOKEN - 1;
 // The last code that an item can have.
@@ -37,13 +41,15 @@ pub fn is_cut(number: usize) -> bool
 }
 
 // The name that the text goes by, escaped.
-fn put_name(out: &mut [u8; 65536], at: usize) -> usize
+fn put_name<R: Env>(rt: &R, out: &mut [u8; 65536], at: usize) -> usize
     requires { Place at }
     ensures { Place result }
 {
     let mut name = io::buffer();
-    let n = os::arg(5, &mut name);
-    put_shown(out, at, true, &name[..n], 4096)
+    match rt.arg(5, &mut name) {
+        Ok(n) => put_shown(out, at, true, &name[..n], 4096),
+        Err(_) => put_shown(out, at, true, &name[..0], 4096),
+    }
 }
 
 // One read of the head. `event` is how many bytes it gave.
@@ -52,8 +58,7 @@ fn put_some_head(out: &mut [u8; 65536], at: usize) -> Mark
     ensures { Place result.at }
 {
     let mut buffer = io::buffer();
-    let got = libc::read(5, &mut buffer);
-    let n = io::count(got, &buffer);
+    let n = io::read_full(HEAD, &mut buffer);
     Mark {
         at: put_all(out, at, &buffer[..n]),
         event: n,
@@ -92,14 +97,21 @@ fn count_codes(tape: &[u8], count: usize, low: u8, high: u8) -> usize {
     n
 }
 
-fn put_header(out: &mut [u8; 65536], at: usize, text: &[u8], items: &[u8], count: usize) -> usize
+fn put_header<R: Env>(
+    rt: &R,
+    out: &mut [u8; 65536],
+    at: usize,
+    text: &[u8],
+    items: &[u8],
+    count: usize,
+) -> usize
     requires { Place at }
     ensures { Place result }
 {
     let to = put_all(out, at, b"<title>");
-    let to = put_name(out, to);
+    let to = put_name(rt, out, to);
     let to = put_all(out, to, b"</title>\n</head>\n<body>\n<header>\n<h1>");
-    let to = put_name(out, to);
+    let to = put_name(rt, out, to);
     let errors = count_codes(items, count, item::ERROR, 255);
     put_form(
         out,
@@ -400,7 +412,8 @@ fn put_body(
     put_all(out, to, b"</pre>\n")
 }
 
-pub fn put_page(
+pub fn put_page<R: Env>(
+    rt: &R,
     out: &mut [u8; 65536],
     at: usize,
     text: &[u8],
@@ -412,7 +425,7 @@ pub fn put_page(
     ensures { Place result }
 {
     let to = put_head(out, at);
-    let to = put_header(out, to, text, items, a.items);
+    let to = put_header(rt, out, to, text, items, a.items);
     let to = put_verdict(out, to, text, items, a);
     let to = put_body(out, to, text, items, events, a);
     put_all(out, to, b"</body>\n</html>\n")

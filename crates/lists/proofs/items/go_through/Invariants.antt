@@ -1,0 +1,12 @@
+-- INV
+use mathlib.Core.Path.{◌≡◌}
+use borrow.Author.Rules.{rules}
+use lib.ListN.{length}
+use Rattle.print.specs.Place.{Place}
+use Rattle.lists.proofs.items.go_through.Given as goal
+
+abbrev pub invariant-loop-turns : goal.invariant-loop-turns
+invariant-loop-turns l = (length l.tape ≡ length l.initial.tape) × Place l.pass.walk.at
+
+abbrev pub decreases-loop-turns : goal.decreases-loop-turns
+decreases-loop-turns l = l.turns
