@@ -3,6 +3,10 @@
 // ENTRY is a digit: 0 items, 1 value, 2 constant value, 3 type, 4 selection set, 5 part, 6 page. FLAGS are five digits, 1 for yes: print tape words,
 // colour, tell the status on descriptor 3, the stack has room for a text of over 65,536 bytes, the text is known to be so long. LIMIT and DEPTH are decimal; for a part they are start and length.
 // NAME is what a page calls the text.
+ghost use Rattle.std.specs.Prelude.{◌≤◌};
+
+use std::env::Env;
+
 #[repr(C)]
 #[derive(Clone, Copy)]
 pub struct Asked {
@@ -48,13 +52,12 @@ fn number(word: &[u8]) -> usize {
 }
 
 // A number that is missing, or too long for any use, is the largest.
-fn number_argument(i: usize) -> usize {
+fn number_argument<R: Env>(rt: &R, i: usize) -> usize {
     let mut word = [0u8; 32];
-    let n = os::arg(i, &mut word);
-    if os::errno() != 0 {
-        return usize::MAX;
+    match rt.arg(i, &mut word) {
+        Ok(n) => number(&word[..n]),
+        Err(_) => usize::MAX,
     }
-    number(&word[..n])
 }
 
 fn flag(word: &[u8], i: usize) -> bool {
@@ -74,15 +77,25 @@ fn from_words(entry: &[u8], flags: &[u8], limit: usize, depth: usize) -> Asked {
     }
 }
 
-pub fn arguments() -> Asked {
+// How many bytes of the argument i stand in the word: none where it is missing or too long.
+fn word_length<R: Env>(rt: &R, i: usize, word: &mut [u8; 8]) -> usize
+    ensures { result ≤ 8 }
+{
+    match rt.arg(i, word) {
+        Ok(n) => n,
+        Err(_) => 0,
+    }
+}
+
+pub fn arguments<R: Env>(rt: &R) -> Asked {
     let mut entry = [0u8; 8];
-    let n = os::arg(1, &mut entry);
+    let n = word_length(rt, 1, &mut entry);
     let mut flags = [0u8; 8];
-    let k = os::arg(2, &mut flags);
+    let k = word_length(rt, 2, &mut flags);
     from_words(
         &entry[..n],
         &flags[..k],
-        number_argument(3),
-        number_argument(4),
+        number_argument(rt, 3),
+        number_argument(rt, 4),
     )
 }

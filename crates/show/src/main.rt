@@ -3,24 +3,31 @@
 // The script needs to know how the run ended, and a program has no exit status: so the last thing that it writes is a digit on descriptor 3, where it
 // is told to. 0: all was read; 1: there was a refusal or an error item; 2: the text was not read; 3: a part whose span passes the text's end.
 #![tactic(auto)]
+
 mod asked;
 mod input;
 
 use asked::Asked;
 use codes::refusal;
-use libc::{STDERR_FILENO, STDOUT_FILENO};
 use lists::Style;
 use paumelu::Answer;
 
+// Descriptors.
+const STDOUT: i32 = 1;
+
+const STDERR: i32 = 2;
+
+const STATUS: i32 = 3;
+
 fn tell(asked: Asked, status: u8) {
     if asked.tells {
-        io::write_all(3, &[status]);
+        io::write_all(STATUS, &[status]);
     }
 }
 
 // One clear line on standard error, and the run ends.
 fn complain(asked: Asked, line: &[u8]) {
-    io::write_all(STDERR_FILENO, line);
+    io::write_all(STDERR, line);
     tell(asked, b'2');
 }
 
@@ -78,15 +85,22 @@ fn list_events(
 }
 
 // A page is made of any text that the reader takes. Where it takes none, the page says why.
-fn make_page(asked: Asked, text: &[u8], items: &mut [u8], tape: &mut [u8], out: &mut [u8; 65536]) {
+fn make_page(
+    rt: &HostRuntime,
+    asked: Asked,
+    text: &[u8],
+    items: &mut [u8],
+    tape: &mut [u8],
+    out: &mut [u8; 65536],
+) {
     let a = read(asked, text, items, tape);
-    let at = page::put_page(out, 0, text, items, tape, a);
+    let at = page::put_page(rt, out, 0, text, items, tape, a);
     finish(asked, page::is_cut(a.number), at, out);
 }
 
 fn write_part(asked: Asked, text: &[u8]) {
     let part = paumelu::part(text, asked.limit, asked.depth);
-    if !io::write_all(STDOUT_FILENO, part) {
+    if !io::write_all(STDOUT, part) {
         complain(asked, b"paumelu: the output cannot be written\n");
         return;
     }
@@ -98,7 +112,14 @@ fn write_part(asked: Asked, text: &[u8]) {
 }
 
 // Answers on a text that is read whole.
-fn answer(asked: Asked, text: &[u8], items: &mut [u8], events: &mut [u8], out: &mut [u8; 65536]) {
+fn answer(
+    rt: &HostRuntime,
+    asked: Asked,
+    text: &[u8],
+    items: &mut [u8],
+    events: &mut [u8],
+    out: &mut [u8; 65536],
+) {
     if asked.entry == b'0' {
         list_items(asked, text, items, out);
         return;
@@ -108,7 +129,7 @@ fn answer(asked: Asked, text: &[u8], items: &mut [u8], events: &mut [u8], out: &
         return;
     }
     if asked.entry == b'6' {
-        make_page(asked, text, items, events, out);
+        make_page(rt, asked, text, items, events, out);
         return;
     }
     list_events(asked, text, items, events, out);
@@ -124,6 +145,7 @@ fn takes_large(entry: u8) -> bool {
 
 // Answers on the text's first n bytes, which are all of it, or complains that it cannot be read. Says whether one of these was so.
 fn answer_whole(
+    rt: &HostRuntime,
     asked: Asked,
     text: &[u8],
     n: usize,
@@ -136,7 +158,7 @@ fn answer_whole(
         return true;
     }
     if n < text.len() {
-        answer(asked, paumelu::part(text, 0, n), items, events, out);
+        answer(rt, asked, paumelu::part(text, 0, n), items, events, out);
         return true;
     }
     false
@@ -158,6 +180,7 @@ fn complain_of_length(asked: Asked) {
 
 // A text that did not fit the small buffers: its start is lent, and the rest is still to be read.
 fn read_large(
+    rt: &HostRuntime,
     asked: Asked,
     head: &[u8],
     text: &mut [u8],
@@ -166,19 +189,20 @@ fn read_large(
     out: &mut [u8; 65536],
 ) {
     input::copy(head, text);
-    let n = input::read_text(text, head.len());
-    if answer_whole(asked, text, n, items, events, out) {
+    let n = input::read_text(rt, text, head.len());
+    if answer_whole(rt, asked, text, n, items, events, out) {
         return;
     }
     // the text is longer than the buffer, or as long: the reader refuses it with 2
     if asked.entry == b'0' {
-        answer(asked, text, items, events, out);
+        answer(rt, asked, text, items, events, out);
         return;
     }
     complain_of_length(asked);
 }
 
 fn lend_items(
+    rt: &HostRuntime,
     asked: Asked,
     head: &[u8],
     text: &mut [u8; refusal::LONGEST + 1],
@@ -186,17 +210,18 @@ fn lend_items(
     out: &mut [u8; 65536],
 ) {
     let mut events = [0u8; 8];
-    read_large(asked, head, text, items, &mut events, out);
+    read_large(rt, asked, head, text, items, &mut events, out);
 }
 
 // Texts of up to 16,777,216 bytes.
-fn go_items(asked: Asked, head: &[u8], out: &mut [u8; 65536]) {
+fn go_items(rt: &HostRuntime, asked: Asked, head: &[u8], out: &mut [u8; 65536]) {
     let mut text = [0u8; refusal::LONGEST + 1];
     let mut items = [0u8; 8388608];
-    lend_items(asked, head, &mut text, &mut items, out);
+    lend_items(rt, asked, head, &mut text, &mut items, out);
 }
 
 fn lend_events(
+    rt: &HostRuntime,
     asked: Asked,
     head: &[u8],
     text: &mut [u8; 1048577],
@@ -204,15 +229,15 @@ fn lend_events(
     events: &mut [u8; 41943040],
     out: &mut [u8; 65536],
 ) {
-    read_large(asked, head, text, items, events, out);
+    read_large(rt, asked, head, text, items, events, out);
 }
 
 // Texts of up to 1,048,576 bytes: eight bytes of item tape and forty of event tape for each byte of the text.
-fn go_events(asked: Asked, head: &[u8], out: &mut [u8; 65536]) {
+fn go_events(rt: &HostRuntime, asked: Asked, head: &[u8], out: &mut [u8; 65536]) {
     let mut text = [0u8; 1048577];
     let mut items = [0u8; 8388616];
     let mut events = [0u8; 41943040];
-    lend_events(asked, head, &mut text, &mut items, &mut events, out);
+    lend_events(rt, asked, head, &mut text, &mut items, &mut events, out);
 }
 
 // A long text is not begun where the stack has no room for it.
@@ -229,7 +254,7 @@ fn lacks_room(asked: Asked) -> bool {
 
 // The compiler keeps this a function with a frame of its own, since it is called in two places and is not short: so a run on a short text needs
 // little stack. The recorded run, on a stack of the usual size, shows it.
-fn go_large(asked: Asked, head: &[u8], out: &mut [u8; 65536]) {
+fn go_large(rt: &HostRuntime, asked: Asked, head: &[u8], out: &mut [u8; 65536]) {
     if !asked.roomy {
         complain(
             asked,
@@ -238,55 +263,57 @@ fn go_large(asked: Asked, head: &[u8], out: &mut [u8; 65536]) {
         return;
     }
     if takes_large(asked.entry) {
-        go_items(asked, head, out);
+        go_items(rt, asked, head, out);
         return;
     }
-    go_events(asked, head, out);
+    go_events(rt, asked, head, out);
 }
 
 fn read_small(
+    rt: &HostRuntime,
     asked: Asked,
     text: &mut [u8],
     items: &mut [u8],
     events: &mut [u8],
     out: &mut [u8; 65536],
 ) {
-    let n = input::read_text(text, 0);
-    if answer_whole(asked, text, n, items, events, out) {
+    let n = input::read_text(rt, text, 0);
+    if answer_whole(rt, asked, text, n, items, events, out) {
         return;
     }
     if !lacks_room(asked) {
-        go_large(asked, text, out);
+        go_large(rt, asked, text, out);
     }
 }
 
 fn lend_small(
+    rt: &HostRuntime,
     asked: Asked,
     text: &mut [u8; 65537],
     items: &mut [u8; 524304],
     events: &mut [u8; 2621440],
     out: &mut [u8; 65536],
 ) {
-    read_small(asked, text, items, events, out);
+    read_small(rt, asked, text, items, events, out);
 }
 
 // Texts of up to 65,536 bytes, and the start of longer ones.
-fn go_small(asked: Asked, out: &mut [u8; 65536]) {
+fn go_small(rt: &HostRuntime, asked: Asked, out: &mut [u8; 65536]) {
     let mut text = [0u8; 65537];
     let mut items = [0u8; 524304];
     let mut events = [0u8; 2621440];
-    lend_small(asked, &mut text, &mut items, &mut events, out);
+    lend_small(rt, asked, &mut text, &mut items, &mut events, out);
 }
 
-fn go(asked: Asked, out: &mut [u8; 65536]) {
+fn go(rt: &HostRuntime, asked: Asked, out: &mut [u8; 65536]) {
     if asked.long {
-        go_large(asked, b"", out);
+        go_large(rt, asked, b"", out);
         return;
     }
-    go_small(asked, out);
+    go_small(rt, asked, out);
 }
 
-fn main() {
+fn main(rt: HostRuntime) {
     let mut out = [0u8; 65536];
-    go(asked::arguments(), &mut out);
+    go(&rt, asked::arguments(&rt), &mut out);
 }
