@@ -77,8 +77,7 @@ pub fn read_selection_set(
 }
 
 // Reads items for C, by the entry code 0: the number is the result; place, items and events are written behind references.
-#[unsafe(no_mangle)]
-pub extern "C" fn paumelu_read(
+pub fn paumelu_read(
     entry: u64,
     text: &[u8],
     limit: u64,
