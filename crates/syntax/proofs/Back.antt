@@ -9,7 +9,7 @@ use borrow.Author.Tests.{eqb-true, eqb-false}
 use Rattle.base.specs.Text.{pick, from}
 use Rattle.base.specs.Item.{Item}
 use Rattle.base.proofs.Tests.{by, or_true, from_true}
-use Rattle.syntax.specs.Token.{eof, dollar, colon, at, bracket_l, bracket_r, brace_l, brace_r, plain, string, int, float, word_true, word_false, word_null, word_on, is_name, is_enum, is_fragment_name, Token, token, end_of, token_event, opens, closes, leaf, name_events}
+use Rattle.syntax.specs.Token.{eof, dollar, colon, bracket_l, bracket_r, brace_l, brace_r, plain, string, int, float, word_true, word_false, word_null, word_on, is_name, is_enum, is_fragment_name, Token, token, end_of, token_event, opens, closes, leaf, name_events}
 use Rattle.syntax.specs.Grammar.{Span, of, Word, kind_of, Name, name_token, EnumWord, enum_kind, FragmentWord, fragment_kind, last_end, variable, int_value, float_value, string_value, true_value, false_value, null_value, enum_value, list_value, object_value, no_value, a_value as an_item, no_field, a_field, value_tokens, values_tokens, fields_tokens, value_events, values_events, fields_events}
 use Rattle.syntax.specs.Machine.{Sym, value, deeper, items, fields, name, colon_due, close, Move, go, stop, halt, also, at_value, at_deeper, at_items, at_fields, step}
 use Rattle.syntax.proofs.Steps.{end_after, end_after_last, join_first, end_join, node_bracketed}

@@ -5,7 +5,7 @@ use mathlib.Core.Bool.{Bool, false}
 use mathlib.Core.List.{List, [], ◌∷◌, ◌++◌}
 use native.Mathlib.Omega.{arith}
 use Rattle.syntax.specs.Token.{is_name, Token, end_of, token_event, opens, closes}
-use Rattle.syntax.specs.Machine.{Sym, value, deeper, items, fields, go, refused, run}
+use Rattle.syntax.specs.Machine.{Sym, value, deeper, items, fields, refused, run}
 use Rattle.parser.specs.declared.Peeked.{Peeked}
 use Rattle.parser.specs.declared.Step.{Step}
 use Rattle.parser.specs.View.{rest, token_of, Front}

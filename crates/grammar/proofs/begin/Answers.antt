@@ -1,7 +1,6 @@
 -- `grammar::begin` meets its contract: each entry's function, from the first item on. Assumes nothing.
 use native.Mathlib.Omega.{arith}
 use Rattle.grammar.proofs.Starts.{some_item, by_value, by_constant, by_type, by_set}
-use borrow.Author.Rules.{rules}
 use Rattle.grammar.proofs.begin.Goals as goal
 
 pub value-requires : goal.value-requires

@@ -1,11 +1,10 @@
--- `grammar::first_error` meets its contract. The invariant: no item before number i is an error. Assumes nothing.
-use mathlib.Core.Path.{◌≡◌, ap, ◌∙◌}
-use Prim.Native.Nat.{◌+◌, ◌-◌, ◌≤◌, ◌<◌}
+-- `grammar::first_error` meets its contract. Assumes nothing.
+use mathlib.Core.Path.{ap, ◌∙◌}
+use Prim.Native.Nat.{◌<◌}
 use native.Mathlib.Omega.{arith}
-use lib.ListN.{length, drop}
+use lib.ListN.{length}
 use Rattle.base.specs.Item.{Item}
 use Rattle.rules.specs.Items.{items as items_of}
-use Rattle.grammar.specs.Answers.{first_error}
 use Rattle.grammar.proofs.Errors.{error_here, no_error_here, no_error}
 use Rattle.grammar.proofs.first_error.Goals as goal
 

@@ -1,12 +1,9 @@
--- INV
-use mathlib.Core.Path.{◌≡◌, ap, ◌∙◌}
-use Prim.Native.Nat.{◌+◌, ◌-◌, ◌≤◌, ◌<◌}
-use native.Mathlib.Omega.{arith}
-use lib.ListN.{length, drop}
-use Rattle.base.specs.Item.{Item}
+-- `grammar::first_error` meets its contract. The invariant: no item before number i is an error. Assumes nothing.
+use mathlib.Core.Path.{◌≡◌}
+use Prim.Native.Nat.{◌+◌, ◌-◌, ◌≤◌}
+use lib.ListN.{drop}
 use Rattle.rules.specs.Items.{items as items_of}
 use Rattle.grammar.specs.Answers.{first_error}
-use Rattle.grammar.proofs.Errors.{error_here, no_error_here, no_error}
 use Rattle.grammar.proofs.first_error.Given as goal
 
 abbrev pub invariant-loop-i : goal.invariant-loop-i

@@ -1,6 +1,5 @@
 -- `grammar::parse` meets its contract. Assumes nothing.
 use Rattle.grammar.proofs.Readings.{inside, ends, goes_on, ended}
-use borrow.Author.Rules.{rules}
 use Rattle.grammar.proofs.parse.Goals as goal
 
 pub peek_token-token-requires : goal.peek_token-token-requires

@@ -2,7 +2,6 @@
 use native.Mathlib.Omega.{arith}
 use Rattle.grammar.proofs.Fits.{read_fits}
 use Rattle.grammar.proofs.Readings.{lent_refused, lent_short, lent_written}
-use borrow.Author.Rules.{rules}
 use Rattle.grammar.proofs.parse_twice.Goals as goal
 
 pub returns-then-capacity-out : goal.returns-then-capacity-out

@@ -2,7 +2,6 @@
 use native.Mathlib.Omega.{arith}
 use Rattle.tape.specs.Answers.{item_of}
 use Rattle.grammar.proofs.Rows.{too_deep_lem, not_read, counted, holds, an_error, parsed}
-use borrow.Author.Rules.{rules}
 use Rattle.grammar.proofs.read.Goals as goal
 
 pub returns-then-depth-gt-DEEPEST : goal.returns-then-depth-gt-DEEPEST

@@ -1,5 +1,4 @@
 -- `lookup::is_digit` meets its contract: the class tells. Assumes nothing.
-use borrow.Author.Rules.{rules}
 use Rattle.lookup.proofs.Classes.{test_digit}
 use Rattle.lookup.proofs.is_digit.Goals as goal
 

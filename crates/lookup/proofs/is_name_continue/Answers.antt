@@ -1,6 +1,5 @@
 -- `lookup::is_name_continue` meets its contract: the class tells. Assumes nothing.
 use mathlib.Core.Path.{sym, ◌∙◌}
-use borrow.Author.Rules.{rules}
 use Rattle.lookup.proofs.Classes.{name_continues, digit_continues}
 use Rattle.lookup.proofs.is_name_continue.Goals as goal
 

@@ -1,5 +1,4 @@
 -- `lookup::is_namestart` meets its contract: the class tells. Assumes nothing.
-use borrow.Author.Rules.{rules}
 use Rattle.lookup.proofs.Classes.{test_name}
 use Rattle.lookup.proofs.is_namestart.Goals as goal
 

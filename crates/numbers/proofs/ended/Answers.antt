@@ -1,6 +1,5 @@
 -- `numbers::ended` meets its contract, state by state. Assumes nothing.
 use Rattle.base.specs.Lexed.{lexed_of}
-use borrow.Author.Rules.{rules}
 use Rattle.numbers.proofs.ended.Goals as goal
 
 pub returns-in-MinusSign : goal.returns-in-MinusSign

@@ -1,6 +1,5 @@
 -- `numbers::number` meets its contract: by the first byte, the machine that is right. Assumes nothing.
 use mathlib.Core.Path.{ap, ◌∙◌}
-use borrow.Author.Rules.{rules}
 use Rattle.base.specs.Lexed.{lexed_of}
 use Rattle.numbers.proofs.Machine.{machine_minus, machine_zero, machine_nonzero}
 use Rattle.numbers.proofs.number.Goals as goal

@@ -1,13 +1,9 @@
--- `numbers::number_from` meets its contract. The invariant: what is left to be read from here is what was to be read at the start.
--- Assumes nothing.
-use Prim.Native.Nat.{◌-◌}
+-- `numbers::number_from` meets its contract. Assumes nothing.
 use mathlib.Core.Path.{sym, ap, ◌∙◌}
 use native.Mathlib.Omega.{arith}
-use borrow.Author.Rules.{rules}
-use lib.ListN.{length}
 use Rattle.base.specs.Lexed.{lexed_of}
 use Rattle.base.proofs.Found.{error_lexed}
-use Rattle.numbers.proofs.Turn.{Passed, begin, turn, done, ended, error_fits, failed}
+use Rattle.numbers.proofs.Turn.{begin, turn, done, ended, error_fits, failed}
 use Rattle.numbers.proofs.number_from.Goals as goal
 
 pub loop-i-init : goal.loop-i-init

@@ -1,6 +1,5 @@
 -- `numbers::number_step` meets its contract: a digit, or another byte. Assumes nothing.
 use mathlib.Core.Path.{sym, ◌∙◌}
-use borrow.Author.Rules.{rules}
 use Rattle.numbers.specs.Number.{step_of}
 use Rattle.numbers.proofs.number_step.Goals as goal
 

@@ -1,6 +1,5 @@
--- INV
+-- `page::count_codes` is safe and ends. Assumes nothing.
 use Prim.Native.Nat.{◌≤◌, ◌-◌}
-use borrow.Author.Rules.{rules}
 use Rattle.page.proofs.count_codes.Given as goal
 
 abbrev pub invariant-loop-i : goal.invariant-loop-i

@@ -1,6 +1,5 @@
--- INV
+-- `page::put_closed` meets its contract: the place stays one. Assumes nothing.
 use Prim.Native.Nat.{◌-◌}
-use borrow.Author.Rules.{rules}
 use Rattle.print.specs.Place.{Place}
 use Rattle.page.proofs.put_closed.Given as goal
 

@@ -1,5 +1,4 @@
--- INV
-use borrow.Author.Rules.{rules}
+-- `page::put_head` meets its contract: the place stays one. Assumes nothing.
 use Rattle.print.specs.Place.{Place}
 use Rattle.page.proofs.put_head.Given as goal
 

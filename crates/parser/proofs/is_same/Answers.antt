@@ -1,11 +1,8 @@
--- `parser::is_same` meets its contract. The invariant: the texts are the same exactly if what is left from i on is. Assumes nothing.
-use mathlib.Core.Path.{◌≡◌, refl, sym, ◌∙◌}
-use Prim.Native.Nat.{◌-◌, ◌≤◌}
+-- `parser::is_same` meets its contract. Assumes nothing.
+use mathlib.Core.Path.{refl, sym, ◌∙◌}
 use native.Mathlib.Omega.{arith}
 use borrow.Author.Rules.{rules}
 use native.Mathlib.Numerals.{add-one}
-use lib.ListN.{length, drop}
-use Rattle.syntax.specs.Words.{same}
 use Rattle.parser.proofs.View.{same_length_no, same_here, same_not, same_end}
 use Rattle.parser.proofs.is_same.Goals as goal
 

@@ -1,13 +1,8 @@
--- `parser::peek_token` meets its contract. The invariant: the tokens from item number i on are those from `at` on. Assumes nothing.
-use mathlib.Core.Path.{◌≡◌, refl, sym, ◌∙◌}
-use Prim.Native.Nat.{◌-◌, ◌≤◌, ◌<◌}
+-- `parser::peek_token` meets its contract. Assumes nothing.
+use mathlib.Core.Path.{refl, sym, ◌∙◌}
 use native.Mathlib.Omega.{arith}
 use borrow.Author.Rules.{rules}
-use borrow.Author.Tests.{not-true, not-false}
-use lib.ListN.{length}
 use Rattle.tape.specs.Answers.{item_of}
-use Rattle.rules.specs.Items.{items as items_of}
-use Rattle.parser.specs.View.{rest}
 use Rattle.parser.proofs.Items.{entry_inside, passed, found}
 use Rattle.parser.proofs.peek_token.Goals as goal
 

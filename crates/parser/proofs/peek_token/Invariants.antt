@@ -1,14 +1,9 @@
--- INV
-use mathlib.Core.Path.{◌≡◌, refl, sym, ◌∙◌}
+-- `parser::peek_token` meets its contract. The invariant: the tokens from item number i on are those from `at` on. Assumes nothing.
+use mathlib.Core.Path.{◌≡◌}
 use Prim.Native.Nat.{◌-◌, ◌≤◌, ◌<◌}
-use native.Mathlib.Omega.{arith}
-use borrow.Author.Rules.{rules}
-use borrow.Author.Tests.{not-true, not-false}
 use lib.ListN.{length}
-use Rattle.tape.specs.Answers.{item_of}
 use Rattle.rules.specs.Items.{items as items_of}
 use Rattle.parser.specs.View.{rest}
-use Rattle.parser.proofs.Items.{entry_inside, passed, found}
 use Rattle.parser.proofs.peek_token.Given as goal
 
 abbrev pub invariant-loop-e : goal.invariant-loop-e

@@ -1,6 +1,5 @@
 -- `parser::put` meets its contract. Assumes nothing.
 use Rattle.parser.proofs.Events.{puts_one}
-use borrow.Author.Rules.{rules}
 use Rattle.parser.proofs.put.Goals as goal
 
 pub returns : goal.returns

@@ -1,5 +1,4 @@
 -- `parser::put_close` meets its contract. Assumes nothing.
-use borrow.Author.Rules.{rules}
 use Rattle.parser.proofs.put_close.Goals as goal
 
 pub returns : goal.returns

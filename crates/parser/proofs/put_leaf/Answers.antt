@@ -1,6 +1,5 @@
 -- `parser::put_leaf` meets its contract. Assumes nothing.
 use Rattle.parser.proofs.Events.{puts_then}
-use borrow.Author.Rules.{rules}
 use Rattle.parser.proofs.put_leaf.Goals as goal
 
 pub returns : goal.returns

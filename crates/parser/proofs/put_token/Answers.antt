@@ -1,5 +1,4 @@
 -- `parser::put_token` meets its contract. Assumes nothing.
-use borrow.Author.Rules.{rules}
 use Rattle.parser.proofs.put_token.Goals as goal
 
 pub returns : goal.returns

@@ -3,7 +3,6 @@ use mathlib.Core.Path.{ap, ◌∙◌}
 use borrow.Author.Tests.{ne_eqb}
 use Rattle.syntax.specs.Words.{word_of, token_of}
 use Rattle.parser.proofs.View.{part_in}
-use borrow.Author.Rules.{rules}
 use Rattle.parser.proofs.token_kind.Goals as goal
 
 pub returns-then-code-eq-NAME : goal.returns-then-code-eq-NAME

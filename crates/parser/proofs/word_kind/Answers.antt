@@ -1,7 +1,6 @@
 -- `parser::word_kind` meets its contract, word by word. Assumes nothing.
 use mathlib.Core.Path.{sym, ◌∙◌}
 use Rattle.syntax.specs.Words.{word_of}
-use borrow.Author.Rules.{rules}
 use Rattle.parser.proofs.word_kind.Goals as goal
 
 pub returns-then-is_same : goal.returns-then-is_same

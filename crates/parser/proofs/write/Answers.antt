@@ -3,7 +3,6 @@ use mathlib.Core.Path.{◌∙◌}
 use native.Mathlib.Omega.{arith}
 use Rattle.base.specs.Item.{item}
 use Rattle.parser.proofs.Events.{store_in, store_out}
-use borrow.Author.Rules.{rules}
 use Rattle.parser.proofs.write.Goals as goal
 
 pub returns-then-capacity-out : goal.returns-then-capacity-out

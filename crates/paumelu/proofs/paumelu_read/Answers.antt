@@ -2,7 +2,6 @@
 use mathlib.Core.Path.{ap}
 use Rattle.reader.specs.declared.Answer.{Answer}
 use Rattle.paumelu.proofs.Codes.{unknown_entry, item_entry}
-use borrow.Author.Rules.{rules}
 use Rattle.paumelu.proofs.paumelu_read.Goals as goal
 
 pub returns-then-entry-ne-READ_ITEMS : goal.returns-then-entry-ne-READ_ITEMS

@@ -1,13 +1,10 @@
--- `reader::give_items` meets its contract: the invariant is `Head` of proofs/Reading, whose laws say what each way out and a turn make of it. Assumes nothing.
+-- `reader::give_items` meets its contract. Assumes nothing.
 use mathlib.Core.Path.{◌∙◌}
-use Prim.Native.Nat.{◌-◌}
 use native.Mathlib.Omega.{arith}
-use borrow.Author.Rules.{rules}
-use lib.ListN.{length}
 use Rattle.rules.specs.Items.{item_at}
 use Rattle.rules.proofs.Bounds.{item_pos, item_le}
-use Rattle.reader.proofs.Turn.{length_tape, at_limit, at_limit_tape, at_room, at_room_tape}
-use Rattle.reader.proofs.Reading.{Head, start, code_fits, put_fits, given_all, given_all_tape, further, again}
+use Rattle.reader.proofs.Turn.{at_limit, at_limit_tape, at_room, at_room_tape}
+use Rattle.reader.proofs.Reading.{start, code_fits, put_fits, given_all, given_all_tape, further, again}
 use Rattle.reader.proofs.give_items.Goals as goal
 
 pub loop-n-init : goal.loop-n-init

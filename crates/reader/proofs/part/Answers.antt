@@ -1,7 +1,6 @@
 -- `reader::part` meets its contract. Assumes nothing.
 use native.Mathlib.Omega.{arith}
 use Rattle.reader.proofs.Spans.{past_start, past_end, part_inside}
-use borrow.Author.Rules.{rules}
 use Rattle.reader.proofs.part.Goals as goal
 
 pub returns-then-n-start : goal.returns-then-n-start

@@ -1,6 +1,5 @@
 -- `reader::read_items` meets its contract: the table row by row. Assumes nothing.
 use Rattle.reader.proofs.Entries.{too_long, not_utf8_lem, read}
-use borrow.Author.Rules.{rules}
 use Rattle.reader.proofs.read_items.Goals as goal
 
 pub returns-then-text-gt-LONGEST : goal.returns-then-text-gt-LONGEST

@@ -1,8 +1,5 @@
--- `replay::all_cases` is safe and ends. Assumes nothing.
-use mathlib.Core.Path.{◌≡◌, refl, ◌∙◌}
-use Prim.Native.Nat.{◌-◌}
-use borrow.Author.Rules.{rules}
-use lib.ListN.{length}
+-- `replay::all_cases` meets its contract. Assumes nothing.
+use mathlib.Core.Path.{refl, ◌∙◌}
 use Rattle.replay.proofs.all_cases.Goals as goal
 
 pub loop-turns-init : goal.loop-turns-init

@@ -1,7 +1,5 @@
--- INV
-use mathlib.Core.Path.{◌≡◌, refl, ◌∙◌}
-use Prim.Native.Nat.{◌-◌}
-use borrow.Author.Rules.{rules}
+-- `replay::all_cases` is safe and ends. Assumes nothing.
+use mathlib.Core.Path.{◌≡◌}
 use lib.ListN.{length}
 use Rattle.replay.proofs.all_cases.Given as goal
 

@@ -1,6 +1,5 @@
--- INV
+-- `replay::number` is safe and ends. Assumes nothing.
 use Prim.Native.Nat.{◌≤◌, ◌-◌}
-use borrow.Author.Rules.{rules}
 use Rattle.replay.proofs.number.Given as goal
 
 abbrev pub invariant-loop-i : goal.invariant-loop-i

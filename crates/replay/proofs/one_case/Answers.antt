@@ -1,10 +1,8 @@
 -- `replay::one_case` is safe and ends. Assumes nothing.
 use mathlib.Core.Path.{sym}
-use Prim.Native.Nat.{◌-◌}
 use native.Mathlib.Omega.{arith}
 use lib.ListN.{length-take, length-append, length-drop}
 use lib.Seq.{length-take-le}
-use borrow.Author.Rules.{rules}
 use Rattle.replay.proofs.one_case.Goals as goal
 
 pub slice_bounds-read_full-end-3 : goal.slice_bounds-read_full-end-3

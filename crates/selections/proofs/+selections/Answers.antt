@@ -1,19 +1,15 @@
 -- Fields, inline fragments, selections and selection sets meet their contracts, together: depth falls from one to the other. Assumes nothing.
-use mathlib.Core.Path.{◌≡◌, refl, sym, ◌∙◌}
+use mathlib.Core.Path.{refl, sym, ◌∙◌}
 use mathlib.Core.Bool.{false}
 use mathlib.Core.List.{[], ◌∷◌}
 use native.Mathlib.Omega.{arith}
-use borrow.Author.Rules.{rules}
-use borrow.Author.Tests.{not-true, not-false}
-use lib.ListN.{length}
-use Rattle.rules.specs.Items.{items as items_of}
-use Rattle.syntax.specs.Machine.{selection_set, selections, close}
+use Rattle.syntax.specs.Machine.{selection_set, close}
 use Rattle.parser.specs.Promise.{took, stopped, stops}
-use Rattle.parser.proofs.Moves.{narrow, was_done, was_stopped, Passed, begun, passed_more}
+use Rattle.parser.proofs.Moves.{narrow, was_done, was_stopped, begun, passed_more}
 use Rattle.parser.proofs.Onward.{ready, onto, below}
 use Rattle.selections.proofs.Sets.{begins_name, by_field, by_dots, set_deep, set_empty, set_then, set_stop, set_end, set_missing, none_follows, one_follows, closable}
 use Rattle.selections.proofs.Ready.{ready_done, goes_done, goes_outcome, goes_stop}
-use Prim.Native.Nat.{ℕ, ◌<◌, ◌+◌, ◌-◌, ◌*◌}
+use Prim.Native.Nat.{◌-◌}
 use Rattle.selections.proofs.+selections.Goals as goal
 
 pub field::field-field_parts-parts-requires : goal.field::field-field_parts-parts-requires

@@ -1,12 +1,9 @@
--- INV
-use mathlib.Core.Path.{◌≡◌, sym, ap, ◌∙◌}
-use Prim.Native.Nat.{◌+◌, ◌-◌, ◌≤◌}
-use native.Mathlib.Omega.{arith}
+-- `strings::block_string_literal` meets its contract. The invariant: the block string is that which is read on from i. Assumes nothing.
+use mathlib.Core.Path.{◌≡◌}
+use Prim.Native.Nat.{◌-◌, ◌≤◌}
 use lib.ListN.{length}
-use borrow.Author.Rules.{rules}
-use Rattle.base.specs.Lexed.{lexed_of}
 use Rattle.strings.specs.String.{block_of}
-use Rattle.strings.proofs.Block.{block_from, block_begins, block_closes, block_turn, block_within, block_ends}
+use Rattle.strings.proofs.Block.{block_from}
 use Rattle.strings.proofs.block_string_literal.Given as goal
 
 abbrev pub invariant-loop-i : goal.invariant-loop-i

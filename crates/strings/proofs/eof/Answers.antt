@@ -1,6 +1,5 @@
 -- `strings::eof` meets its contract: 11 for a lone quote, else 12. Assumes nothing.
 use mathlib.Core.Path.{◌≡◌, refl}
-use borrow.Author.Rules.{rules}
 use Rattle.base.specs.Lexed.{lexed_of}
 use Rattle.strings.specs.declared.StringState.{StringState}
 use Rattle.strings.specs.declared.StringState.TheVariants.{StringLiteralStart, StringLiteral, StringLiteralBackslash, StringLiteralEscapedUnicode, StringLiteralEscapedUnicodeVariable, StringLiteralLeadSurrogate, StringLiteralLeadSurrogateBackslash}

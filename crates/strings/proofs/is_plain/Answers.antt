@@ -1,5 +1,4 @@
 -- `strings::is_plain` meets its contract, by its tests. Assumes nothing.
-use borrow.Author.Rules.{rules}
 use borrow.Author.Tests.{ne_eqb}
 use Rattle.rules.specs.Classes.{plain_character}
 use Rattle.strings.proofs.is_plain.Goals as goal

@@ -1,12 +1,8 @@
--- `strings::plain_end` meets its contract. The invariant: the run from i on ends where the run of what is left from j on ends.
--- Assumes nothing.
-use Prim.Native.Nat.{◌+◌, ◌-◌, ◌≤◌}
-use mathlib.Core.Path.{◌≡◌, sym, ◌∙◌}
+-- `strings::plain_end` meets its contract. Assumes nothing.
+use mathlib.Core.Path.{sym, ◌∙◌}
 use native.Mathlib.Omega.{arith}
 use native.Mathlib.Numerals.{add-one}
 use borrow.Author.Rules.{rules}
-use lib.ListN.{length, drop}
-use Rattle.base.specs.Run.{run}
 use Rattle.base.proofs.Runs.{run_here, run_stop, run_over}
 use Rattle.rules.specs.Classes.{plain_character}
 use Rattle.strings.proofs.plain_end.Goals as goal

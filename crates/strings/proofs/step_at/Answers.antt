@@ -1,5 +1,4 @@
 -- `strings::step_at` meets its contract, state by state. Assumes nothing.
-use borrow.Author.Rules.{rules}
 use native.Mathlib.Omega.{arith}
 use lib.ListN.{drop}
 use Rattle.strings.specs.String.{plain_run}

@@ -1,6 +1,5 @@
 -- `strings::string` meets its contract: a block string where `"""` stands, else a quoted string. Assumes nothing.
 use mathlib.Core.Path.{sym, ap, ◌∙◌}
-use borrow.Author.Rules.{rules}
 use Rattle.base.specs.Lexed.{lexed_of}
 use Rattle.strings.proofs.Block.{quotes_long}
 use Rattle.strings.proofs.Items.{quoted_at, block_at}

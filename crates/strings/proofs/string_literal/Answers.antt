@@ -1,13 +1,10 @@
--- `strings::string_literal` meets its contract. The invariant: the string is that which is read on from the state at i, i bytes further on.
--- Assumes nothing.
-use mathlib.Core.Path.{◌≡◌, refl, sym, ap, ◌∙◌}
-use Prim.Native.Nat.{◌+◌, ◌-◌, ◌≤◌}
+-- `strings::string_literal` meets its contract. Assumes nothing.
+use mathlib.Core.Path.{refl, sym, ap, ◌∙◌}
+use Prim.Native.Nat.{◌+◌, ◌≤◌}
 use native.Mathlib.Omega.{arith}
-use lib.ListN.{length, drop}
-use borrow.Author.Rules.{rules}
+use lib.ListN.{length}
 use Rattle.base.specs.Lexed.{lexed_of}
-use Rattle.codes.specs.Errors as errors
-use Rattle.strings.specs.String.{later_of, further, begun, quoted_from}
+use Rattle.strings.specs.String.{later_of}
 use Rattle.strings.proofs.Quoted.{quoted_goes, quoted_closes, quoted_ends}
 use Rattle.strings.proofs.Plain.{plain_passes, plain_within}
 use Rattle.strings.proofs.string_literal.Goals as goal

@@ -1,14 +1,10 @@
--- INV
-use mathlib.Core.Path.{◌≡◌, refl, sym, ap, ◌∙◌}
-use Prim.Native.Nat.{◌+◌, ◌-◌, ◌≤◌}
-use native.Mathlib.Omega.{arith}
+-- `strings::string_literal` meets its contract. The invariant: the string is that which is read on from the state at i, i bytes further on.
+-- Assumes nothing.
+use mathlib.Core.Path.{◌≡◌}
+use Prim.Native.Nat.{◌-◌, ◌≤◌}
 use lib.ListN.{length, drop}
-use borrow.Author.Rules.{rules}
-use Rattle.base.specs.Lexed.{lexed_of}
 use Rattle.codes.specs.Errors as errors
-use Rattle.strings.specs.String.{later_of, further, begun, quoted_from}
-use Rattle.strings.proofs.Quoted.{quoted_goes, quoted_closes, quoted_ends}
-use Rattle.strings.proofs.Plain.{plain_passes, plain_within}
+use Rattle.strings.specs.String.{further, begun, quoted_from}
 use Rattle.strings.proofs.string_literal.Given as goal
 
 abbrev pub invariant-loop-i : goal.invariant-loop-i

@@ -1,6 +1,5 @@
 -- `strings::string_step` meets its contract, arm by arm. Assumes nothing.
 use Rattle.strings.specs.String.{string_step}
-use borrow.Author.Rules.{rules}
 use Rattle.strings.proofs.string_step.Goals as goal
 
 pub returns-in-StringLiteralStart : goal.returns-in-StringLiteralStart

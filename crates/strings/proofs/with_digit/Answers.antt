@@ -1,7 +1,6 @@
 -- `strings::with_digit` meets its contract, by its tests. Assumes nothing.
 use native.Mathlib.Omega.{arith}
 use Rattle.strings.specs.String.{capped}
-use borrow.Author.Rules.{rules}
 use Rattle.strings.proofs.with_digit.Goals as goal
 
 pub returns-then-value-ge1114112 : goal.returns-then-value-ge1114112

@@ -1,5 +1,4 @@
 -- `tape::get_entry` meets its contract: the fields of the word at its place. Assumes nothing.
-use borrow.Author.Rules.{rules}
 use Rattle.tape.specs.Entry.{entry_of}
 use Rattle.tape.proofs.get_entry.Goals as goal
 

@@ -1,5 +1,4 @@
 -- `mini::put_word` meets its contract: eight stores in a row, said of the whole tape. Assumes nothing.
-use borrow.Author.Rules.{rules}
 use native.Mathlib.Omega.{arith}
 use lib.ListN.{length-set}
 use Rattle.tape.specs.Entry.{bytes8}

@@ -1,10 +1,7 @@
--- INV
+-- `utf8::ascii_eights` meets its contract. The invariant: what is read on from i is read on from j. Assumes nothing.
 use Prim.Native.Nat.{◌-◌}
-use native.Mathlib.Omega.{arith}
-use borrow.Author.Rules.{rules}
 use lib.ListN.{length}
 use Rattle.utf8.specs.Sequence.{Passes}
-use Rattle.utf8.proofs.Ascii.{passes_none, passes_eight}
 use Rattle.utf8.proofs.ascii_eights.Given as goal
 
 abbrev pub invariant-loop-j : goal.invariant-loop-j

@@ -1,9 +1,6 @@
--- `utf8::ascii_ones` meets its contract. The invariant: what is read on from i is read on from j. Assumes nothing.
+-- `utf8::ascii_ones` meets its contract. Assumes nothing.
 use mathlib.Core.Path.{refl}
-use Prim.Native.Nat.{◌+◌, ◌-◌}
-use borrow.Author.Rules.{rules}
-use lib.ListN.{length}
-use Rattle.utf8.specs.Sequence.{Passes}
+use Prim.Native.Nat.{◌+◌}
 use Rattle.utf8.proofs.Order.{below_ascii}
 use Rattle.utf8.proofs.Ascii.{passes_none, passes_one}
 use Rattle.utf8.proofs.ascii_ones.Goals as goal

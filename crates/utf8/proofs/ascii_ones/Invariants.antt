@@ -1,11 +1,7 @@
--- INV
-use mathlib.Core.Path.{refl}
-use Prim.Native.Nat.{◌+◌, ◌-◌}
-use borrow.Author.Rules.{rules}
+-- `utf8::ascii_ones` meets its contract. The invariant: what is read on from i is read on from j. Assumes nothing.
+use Prim.Native.Nat.{◌-◌}
 use lib.ListN.{length}
 use Rattle.utf8.specs.Sequence.{Passes}
-use Rattle.utf8.proofs.Order.{below_ascii}
-use Rattle.utf8.proofs.Ascii.{passes_none, passes_one}
 use Rattle.utf8.proofs.ascii_ones.Given as goal
 
 abbrev pub invariant-loop-j : goal.invariant-loop-j

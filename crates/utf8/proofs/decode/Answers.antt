@@ -3,7 +3,6 @@ use mathlib.Core.Path.{sym}
 use native.Mathlib.Omega.{arith}
 use Rattle.utf8.proofs.Order.{sequence_begins}
 use Rattle.utf8.proofs.Outcomes.{no_character, a_character}
-use borrow.Author.Rules.{rules}
 use Rattle.utf8.proofs.decode.Goals as goal
 
 pub returns-then-n-eq0 : goal.returns-then-n-eq0

@@ -1,5 +1,4 @@
 -- `utf8::next_at` meets its contract: what is passed by eight bytes and what is passed by single bytes. Assumes nothing.
-use borrow.Author.Rules.{rules}
 use Rattle.utf8.proofs.Ascii.{passes_none, passes_on}
 use Rattle.utf8.proofs.next_at.Goals as goal
 

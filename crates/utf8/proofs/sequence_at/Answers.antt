@@ -1,7 +1,6 @@
 -- `utf8::sequence_at` meets its contract: it hands the first four bytes over. Assumes nothing.
 use mathlib.Core.Path.{sym}
 use Rattle.utf8.proofs.Order.{below_ascii, sequence_order, sequence_none, sequence_first}
-use borrow.Author.Rules.{rules}
 use Rattle.utf8.proofs.sequence_at.Goals as goal
 
 pub returns-then-s-eq0 : goal.returns-then-s-eq0

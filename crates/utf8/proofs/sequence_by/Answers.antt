@@ -1,7 +1,6 @@
 -- `utf8::sequence_by` meets its contract: each way out is a case of `sequence_order`. Assumes nothing.
 use mathlib.Core.Path.{sym, ◌∙◌}
 use Rattle.utf8.proofs.Order.{below_ascii, above_ascii, sequence_order}
-use borrow.Author.Rules.{rules}
 use Rattle.utf8.proofs.sequence_by.Goals as goal
 
 pub returns-then-a-lt128 : goal.returns-then-a-lt128

@@ -2,7 +2,6 @@
 use mathlib.Core.Path.{sym}
 use native.Mathlib.Omega.{arith}
 use Rattle.utf8.proofs.Order.{size_none, size_first}
-use borrow.Author.Rules.{rules}
 use Rattle.utf8.proofs.size_at.Goals as goal
 
 pub returns-then-s-eq0 : goal.returns-then-s-eq0

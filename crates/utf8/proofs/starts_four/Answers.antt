@@ -1,7 +1,6 @@
 -- `utf8::starts_four` meets its contract: its tests are the cases of `four`. Assumes nothing.
 use mathlib.Core.Path.{sym, ◌∙◌}
 use Rattle.utf8.proofs.Order.{four_f0, four_f4, four_in, four_out}
-use borrow.Author.Rules.{rules}
 use Rattle.utf8.proofs.starts_four.Goals as goal
 
 pub returns-then-a-eq240 : goal.returns-then-a-eq240

@@ -1,7 +1,6 @@
 -- `utf8::starts_three` meets its contract: its tests are the cases of `three`. Assumes nothing.
 use mathlib.Core.Path.{sym, ◌∙◌}
 use Rattle.utf8.proofs.Order.{three_e0, three_ed, three_in, three_out}
-use borrow.Author.Rules.{rules}
 use Rattle.utf8.proofs.starts_three.Goals as goal
 
 pub returns-then-a-eq224 : goal.returns-then-a-eq224

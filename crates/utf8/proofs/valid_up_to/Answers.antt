@@ -1,9 +1,6 @@
--- `utf8::valid_up_to` meets its contract. The invariant: up to i all is well-formed, and what is left is counted from i on.
--- Assumes nothing.
-use Prim.Native.Nat.{◌+◌, ◌-◌}
+-- `utf8::valid_up_to` meets its contract. Assumes nothing.
+use Prim.Native.Nat.{◌+◌}
 use native.Mathlib.Omega.{arith}
-use borrow.Author.Rules.{rules}
-use lib.ListN.{length}
 use Rattle.utf8.proofs.Turn.{Passed, begin, stop, turn}
 use Rattle.utf8.proofs.Ascii.{passed_on}
 use Rattle.utf8.proofs.valid_up_to.Goals as goal

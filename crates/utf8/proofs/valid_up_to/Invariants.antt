@@ -1,10 +1,8 @@
--- INV
-use Prim.Native.Nat.{◌+◌, ◌-◌}
-use native.Mathlib.Omega.{arith}
-use borrow.Author.Rules.{rules}
+-- `utf8::valid_up_to` meets its contract. The invariant: up to i all is well-formed, and what is left is counted from i on.
+-- Assumes nothing.
+use Prim.Native.Nat.{◌-◌}
 use lib.ListN.{length}
-use Rattle.utf8.proofs.Turn.{Passed, begin, stop, turn}
-use Rattle.utf8.proofs.Ascii.{passed_on}
+use Rattle.utf8.proofs.Turn.{Passed}
 use Rattle.utf8.proofs.valid_up_to.Given as goal
 
 abbrev pub invariant-loop-i : goal.invariant-loop-i

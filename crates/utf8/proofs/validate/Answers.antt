@@ -1,6 +1,6 @@
+-- `utf8::validate` meets its contract. Assumes nothing.
 use mathlib.Core.Path.{sym}
 use Rattle.utf8.proofs.Outcomes.{whole, not_whole}
-use borrow.Author.Rules.{rules}
 use Rattle.utf8.proofs.validate.Goals as goal
 
 pub returns-then-place-text : goal.returns-then-place-text

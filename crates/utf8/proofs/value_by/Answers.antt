@@ -3,7 +3,6 @@ use native.Mathlib.Omega.{arith}
 use borrow.Author.Tests.{ne_eqb}
 use Rattle.utf8.specs.Sequence.{value_by}
 use Rattle.utf8.proofs.Front.{sequence_low}
-use borrow.Author.Rules.{rules}
 use Rattle.utf8.proofs.value_by.Goals as goal
 
 pub returns-then-n-eq1 : goal.returns-then-n-eq1

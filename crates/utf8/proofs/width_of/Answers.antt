@@ -1,7 +1,6 @@
 -- `utf8::width_of` meets its contract, by its tests. Assumes nothing.
 use mathlib.Core.Path.{sym, ◌∙◌}
 use Rattle.utf8.specs.Sequence.{width}
-use borrow.Author.Rules.{rules}
 use Rattle.utf8.proofs.width_of.Goals as goal
 
 pub returns-then-within : goal.returns-then-within

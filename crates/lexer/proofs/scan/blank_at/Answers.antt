@@ -2,7 +2,6 @@
 use mathlib.Core.Path.{sym, ap, ◌∙◌}
 use Rattle.lookup.specs.Class.{class_of}
 use Rattle.lexer.proofs.Blanks.{blank_one, blank_mark, blank_none}
-use borrow.Author.Rules.{rules}
 use Rattle.lexer.proofs.scan.blank_at.Goals as goal
 
 pub returns-then-class-eq-WHITESPACE : goal.returns-then-class-eq-WHITESPACE

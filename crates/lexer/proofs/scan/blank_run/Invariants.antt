@@ -1,13 +1,9 @@
--- INV
+-- `lexer::scan::blank_run` meets its contract. The invariant: the run of the whole is i and the run of what is left from i on. Assumes nothing.
 use Prim.Native.Nat.{◌+◌, ◌-◌, ◌≤◌}
 use mathlib.Core.Path.{◌≡◌}
-use native.Mathlib.Omega.{arith}
-use borrow.Author.Rules.{rules}
-use native.Mathlib.Nat.{zero-add}
 use lib.ListN.{length, drop}
 use Rattle.base.specs.Span.{span}
 use Rattle.rules.specs.Tokens.{blank, blanks}
-use Rattle.lexer.proofs.Blanks.{turn, stop}
 use Rattle.lexer.proofs.scan.blank_run.Given as goal
 
 abbrev pub invariant-loop-i : goal.invariant-loop-i

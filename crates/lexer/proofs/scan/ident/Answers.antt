@@ -6,7 +6,6 @@ use Rattle.base.specs.Item.{lexeme}
 use Rattle.base.specs.Lexed.{lexed_of}
 use Rattle.rules.specs.Classes.{name_continue}
 use Rattle.lexer.proofs.Fronts.{name_item, tail_run, tail_fits}
-use borrow.Author.Rules.{rules}
 use Rattle.lexer.proofs.scan.ident.Goals as goal
 
 pub overflow_add-size : goal.overflow_add-size

@@ -1,11 +1,7 @@
--- `lexer::scan::line_run` meets its contract. The invariant: the run of the whole is i and the run of what is left from i on. Assumes nothing.
-use Prim.Native.Nat.{◌+◌, ◌-◌, ◌≤◌}
-use mathlib.Core.Path.{◌≡◌}
+-- `lexer::scan::line_run` meets its contract. Assumes nothing.
 use native.Mathlib.Omega.{arith}
 use borrow.Author.Rules.{rules}
 use native.Mathlib.Numerals.{add-one}
-use lib.ListN.{length, drop}
-use Rattle.base.specs.Run.{run}
 use Rattle.base.proofs.Runs.{run_here, run_stop, run_over}
 use borrow.Author.Tests.{ne_eqb}
 use Rattle.rules.specs.Classes.{line_end, not_line_end}

@@ -1,13 +1,9 @@
--- `lexer::scan::name_run` meets its contract. The invariant: the run of the whole is i and the run of what is left from i on. Assumes nothing.
-use Prim.Native.Nat.{◌+◌, ◌-◌, ◌≤◌}
-use mathlib.Core.Path.{◌≡◌, sym, ◌∙◌}
+-- `lexer::scan::name_run` meets its contract. Assumes nothing.
+use mathlib.Core.Path.{sym, ◌∙◌}
 use native.Mathlib.Omega.{arith}
 use borrow.Author.Rules.{rules}
 use native.Mathlib.Numerals.{add-one}
-use lib.ListN.{length, drop}
-use Rattle.base.specs.Run.{run}
 use Rattle.base.proofs.Runs.{run_here, run_stop, run_over}
-use borrow.Author.Tests.{not-true, not-false}
 use Rattle.rules.specs.Classes.{name_continue}
 use Rattle.lexer.proofs.scan.name_run.Goals as goal
 

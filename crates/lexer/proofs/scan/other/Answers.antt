@@ -3,7 +3,6 @@ use mathlib.Core.Path.{sym, ap, ◌∙◌}
 use native.Mathlib.Omega.{arith}
 use Rattle.base.specs.Item.{lexeme}
 use Rattle.lexer.proofs.Fronts.{other_item}
-use borrow.Author.Rules.{rules}
 use Prim.Native.Nat.{ℕ}
 use Rattle.base.specs.Lexed.{lexed_of}
 use Rattle.lexer.proofs.scan.other.Goals as goal

@@ -7,7 +7,6 @@ use Rattle.base.specs.Lexed.{lexed_of}
 use Rattle.lexer.proofs.Blanks.{blank_one}
 use Rattle.lexer.proofs.Fronts.{eof_item_lem, punctuator_item}
 use Rattle.base.proofs.Found.{token_lexed}
-use borrow.Author.Rules.{rules}
 use Rattle.lexer.proofs.scan.scan.Goals as goal
 
 pub returns-then-rest-eq0 : goal.returns-then-rest-eq0

@@ -7,7 +7,6 @@ use Rattle.base.specs.Item.{lexeme}
 use Rattle.base.specs.Lexed.{lexed_of}
 use Rattle.utf8.proofs.Characters.{size_le}
 use Rattle.lexer.proofs.Fronts.{one_dot_lem, two_dots_lem, three_dots, tail_size}
-use borrow.Author.Rules.{rules}
 use Rattle.lexer.proofs.scan.spread_operator.Goals as goal
 
 pub overflow_add-size : goal.overflow_add-size

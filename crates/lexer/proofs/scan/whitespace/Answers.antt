@@ -4,7 +4,6 @@ use Prim.Native.Nat.{ℕ}
 use Rattle.base.specs.Item.{lexeme}
 use Rattle.base.specs.Lexed.{lexed_of}
 use Rattle.lexer.proofs.Fronts.{blank_item}
-use borrow.Author.Rules.{rules}
 use Rattle.lexer.proofs.scan.whitespace.Goals as goal
 
 pub returns : goal.returns

@@ -1,6 +1,5 @@
--- INV
+-- `lists::items::go_through` meets its contract: the place stays one. Assumes nothing.
 use mathlib.Core.Path.{◌≡◌}
-use borrow.Author.Rules.{rules}
 use lib.ListN.{length}
 use Rattle.print.specs.Place.{Place}
 use Rattle.lists.proofs.items.go_through.Given as goal

@@ -1,6 +1,5 @@
--- INV
+-- `lists::items::rows` meets its contract: the place stays one. Assumes nothing.
 use Prim.Native.Nat.{◌≤◌, ◌-◌}
-use borrow.Author.Rules.{rules}
 use Rattle.print.specs.Place.{Place}
 use Rattle.lists.proofs.items.rows.Given as goal
 

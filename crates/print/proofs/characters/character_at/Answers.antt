@@ -1,5 +1,4 @@
 -- `print::characters::character_at` meets its contract, by what `decode` finds in the rest of the text. Assumes nothing.
-use borrow.Author.Rules.{rules}
 use borrow.Author.Tests.{le-leb}
 use mathlib.Core.Path.{ap, sym, ◌∙◌}
 use Rattle.print.proofs.Decoded.{decoded}

@@ -1,5 +1,4 @@
 -- `print::characters::is_broad` meets its contract, range by range. Assumes nothing.
-use borrow.Author.Rules.{rules}
 use Rattle.print.proofs.characters.is_broad.Goals as goal
 
 pub returns : goal.returns

@@ -1,5 +1,4 @@
 -- `print::characters::is_hidden` meets its contract, range by range. Assumes nothing.
-use borrow.Author.Rules.{rules}
 use Rattle.print.proofs.characters.is_hidden.Goals as goal
 
 pub returns : goal.returns

@@ -1,6 +1,5 @@
--- INV
+-- `print::characters::put_shown` meets its contract: the place stays one. Assumes nothing.
 use Prim.Native.Nat.{◌≤◌, ◌-◌}
-use borrow.Author.Rules.{rules}
 use lib.ListN.{length}
 use Rattle.print.specs.Place.{Place}
 use Rattle.print.proofs.characters.put_shown.Given as goal

@@ -1,8 +1,6 @@
--- `print::entries::first_error` meets its contract: it searches entry after entry. Assumes nothing.
-use Prim.Native.Nat.{◌-◌}
-use borrow.Author.Rules.{rules}
+-- `print::entries::first_error` meets its contract. Assumes nothing.
 use Rattle.tape.specs.Answers.{item_of}
-use Rattle.print.proofs.Errors.{Searched, begin, nowhere, found, onward}
+use Rattle.print.proofs.Errors.{begin, nowhere, found, onward}
 use Rattle.print.proofs.entries.first_error.Goals as goal
 
 pub loop-i-init : goal.loop-i-init

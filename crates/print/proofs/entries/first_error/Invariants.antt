@@ -1,8 +1,6 @@
--- INV
+-- `print::entries::first_error` meets its contract: it searches entry after entry. Assumes nothing.
 use Prim.Native.Nat.{◌-◌}
-use borrow.Author.Rules.{rules}
-use Rattle.tape.specs.Answers.{item_of}
-use Rattle.print.proofs.Errors.{Searched, begin, nowhere, found, onward}
+use Rattle.print.proofs.Errors.{Searched}
 use Rattle.print.proofs.entries.first_error.Given as goal
 
 abbrev pub invariant-loop-i : goal.invariant-loop-i

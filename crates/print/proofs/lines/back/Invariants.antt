@@ -1,6 +1,5 @@
--- INV
+-- `print::lines::back` is safe and ends. Assumes nothing.
 use Prim.Native.Nat.{◌≤◌}
-use borrow.Author.Rules.{rules}
 use Rattle.print.proofs.lines.back.Given as goal
 
 abbrev pub invariant-loop-i : goal.invariant-loop-i

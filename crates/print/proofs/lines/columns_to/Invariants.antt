@@ -1,6 +1,5 @@
--- INV
+-- `print::lines::columns_to` is safe and ends. Assumes nothing.
 use Prim.Native.Nat.{◌-◌}
-use borrow.Author.Rules.{rules}
 use lib.ListN.{length}
 use Rattle.print.proofs.lines.columns_to.Given as goal
 

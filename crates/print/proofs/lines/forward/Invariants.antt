@@ -1,7 +1,6 @@
--- INV
+-- `print::lines::forward` meets its contract: it goes byte after byte. Assumes nothing.
 use Prim.Native.Nat.{◌-◌, ◌≤◌, max}
 use mathlib.Core.Path.{◌≡◌}
-use borrow.Author.Rules.{rules}
 use Rattle.print.proofs.lines.forward.Given as goal
 
 abbrev pub invariant-loop-i : goal.invariant-loop-i

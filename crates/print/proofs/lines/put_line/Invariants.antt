@@ -1,6 +1,5 @@
--- INV
+-- `print::lines::put_line` meets its contract: the place stays one. Assumes nothing.
 use Prim.Native.Nat.{◌≤◌, ◌-◌}
-use borrow.Author.Rules.{rules}
 use lib.ListN.{length}
 use Rattle.print.specs.Place.{Place}
 use Rattle.print.proofs.lines.put_line.Given as goal

@@ -1,7 +1,6 @@
 -- `print::output::flush` meets its contract. Assumes nothing.
 use mathlib.Core.Path.{refl}
 use mathlib.Core.Bool.{false}
-use borrow.Author.Rules.{rules}
 use Rattle.base.proofs.Tests.{apart}
 use Rattle.print.proofs.output.flush.Goals as goal
 

@@ -1,6 +1,5 @@
--- INV
+-- `print::output::nth` is safe and ends. Assumes nothing.
 use Prim.Native.Nat.{◌≤◌, ◌-◌}
-use borrow.Author.Rules.{rules}
 use lib.ListN.{length}
 use Rattle.print.proofs.output.nth.Given as goal
 

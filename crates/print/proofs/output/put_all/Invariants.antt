@@ -1,6 +1,5 @@
--- INV
+-- `print::output::put_all` meets its contract: the place stays one. Assumes nothing.
 use Prim.Native.Nat.{◌≤◌, ◌-◌}
-use borrow.Author.Rules.{rules}
 use lib.ListN.{length}
 use Rattle.print.specs.Place.{Place}
 use Rattle.print.proofs.output.put_all.Given as goal

@@ -1,6 +1,5 @@
--- INV
+-- `print::output::put_times` meets its contract: the place stays one. Assumes nothing.
 use Prim.Native.Nat.{◌≤◌, ◌-◌}
-use borrow.Author.Rules.{rules}
 use Rattle.print.specs.Place.{Place}
 use Rattle.print.proofs.output.put_times.Given as goal
 

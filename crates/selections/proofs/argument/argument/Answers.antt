@@ -8,7 +8,6 @@ use Rattle.parser.proofs.Moves.{narrow}
 use Rattle.parser.proofs.Onward.{ready, onto, below, after}
 use Rattle.values.proofs.Steps.{name_kind}
 use Rattle.selections.proofs.ArgumentSteps.{argument_named}
-use borrow.Author.Rules.{rules}
 use Rattle.selections.proofs.argument.argument.Goals as goal
 
 pub put_open-opened-requires : goal.put_open-opened-requires

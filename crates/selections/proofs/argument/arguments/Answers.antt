@@ -1,17 +1,10 @@
--- `selections::argument::arguments` meets its contract: at least one argument, and the further ones are a loop. Assumes nothing.
-use Prim.Native.Nat.{◌<◌, ◌-◌}
-use mathlib.Core.Path.{◌≡◌, refl, sym, ◌∙◌}
+-- `selections::argument::arguments` meets its contract. Assumes nothing.
+use mathlib.Core.Path.{refl, sym, ◌∙◌}
 use mathlib.Core.Bool.{false}
-use mathlib.Core.List.{[], ◌∷◌}
 use native.Mathlib.Omega.{arith}
-use borrow.Author.Tests.{not-true, not-false}
-use lib.ListN.{length}
-use Rattle.rules.specs.Items.{items as items_of}
-use Rattle.syntax.specs.Machine.{arguments as arguments_due}
 use Rattle.parser.specs.Promise.{took, stopped}
-use Rattle.parser.proofs.Moves.{narrow, was_done, was_stopped, Passed, begun, passed_more}
+use Rattle.parser.proofs.Moves.{narrow, was_done, was_stopped, begun, passed_more}
 use Rattle.selections.proofs.ArgumentSteps.{arguments_empty, arguments_then, arguments_closed, arguments_stop}
-use borrow.Author.Rules.{rules}
 use Rattle.selections.proofs.argument.arguments.Goals as goal
 
 pub open_with-o-requires : goal.open_with-o-requires

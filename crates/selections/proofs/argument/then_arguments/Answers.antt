@@ -3,7 +3,6 @@ use mathlib.Core.Bool.{false}
 use Rattle.parser.proofs.Onward.{nothing}
 use Rattle.selections.proofs.Ready.{ready_done, goes_done, goes_outcome, goes_stop}
 use Rattle.selections.proofs.ArgumentSteps.{arguments_absent}
-use borrow.Author.Rules.{rules}
 use Rattle.selections.proofs.argument.then_arguments.Goals as goal
 
 pub peek_token-token-requires : goal.peek_token-token-requires

@@ -6,7 +6,6 @@ use Rattle.syntax.specs.Machine.{opt_arguments, close, directives}
 use Rattle.parser.proofs.Moves.{narrow}
 use Rattle.parser.proofs.Onward.{ready, onto, below, after}
 use Rattle.selections.proofs.DirectiveSteps.{directive_opened}
-use borrow.Author.Rules.{rules}
 use Rattle.selections.proofs.directive.directive.Goals as goal
 
 pub overflow_add-opened : goal.overflow_add-opened

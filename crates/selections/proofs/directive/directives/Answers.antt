@@ -1,19 +1,11 @@
--- `selections::directive::directives` meets its contract: a loop, which ends where no `@` stands. Assumes nothing.
-use Prim.Native.Nat.{◌-◌}
-use mathlib.Core.Path.{◌≡◌, refl, ◌∙◌}
+-- `selections::directive::directives` meets its contract. Assumes nothing.
+use mathlib.Core.Path.{refl, ◌∙◌}
 use mathlib.Core.Bool.{false}
-use mathlib.Core.List.{[], ◌∷◌}
 use native.Mathlib.Omega.{arith}
-use lib.ListN.{length}
-use Rattle.rules.specs.Items.{items as items_of}
-use Rattle.syntax.specs.Machine.{directives as directives_due}
-use Rattle.parser.specs.declared.Step.TheVariants.{Done}
-use Rattle.parser.specs.Promise.{Goes}
 use Rattle.parser.proofs.Moves.{was_done}
 use Rattle.parser.proofs.Onward.{ready, onto, outcome, nothing}
 use Rattle.selections.proofs.Ready.{goes_to, goes_refused}
 use Rattle.selections.proofs.DirectiveSteps.{directives_closed}
-use borrow.Author.Rules.{rules}
 use Rattle.selections.proofs.directive.directives.Goals as goal
 
 pub loop-t-init : goal.loop-t-init

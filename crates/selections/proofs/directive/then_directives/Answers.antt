@@ -5,7 +5,6 @@ use Rattle.parser.proofs.Moves.{narrow}
 use Rattle.parser.proofs.Onward.{first, nothing}
 use Rattle.selections.proofs.Ready.{ready_done, goes_done, goes_stop}
 use Rattle.selections.proofs.DirectiveSteps.{directives_absent, directives_begin}
-use borrow.Author.Rules.{rules}
 use Rattle.selections.proofs.directive.then_directives.Goals as goal
 
 pub peek_token-token-requires : goal.peek_token-token-requires

@@ -1,6 +1,5 @@
 -- `selections::field::alias` meets its contract: the name and its `:` inside an ALIAS. Assumes nothing.
 use Rattle.parser.proofs.Events.{puts_then}
-use borrow.Author.Rules.{rules}
 use Rattle.selections.proofs.field.alias.Goals as goal
 
 pub returns : goal.returns

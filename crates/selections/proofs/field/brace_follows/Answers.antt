@@ -1,5 +1,4 @@
 -- `selections::field::brace_follows` meets its contract. Assumes nothing.
-use borrow.Author.Rules.{rules}
 use Rattle.selections.proofs.Sets.{follows_front, follows_none}
 use Rattle.selections.proofs.Ready.{ready_done}
 use Rattle.selections.proofs.field.brace_follows.Goals as goal

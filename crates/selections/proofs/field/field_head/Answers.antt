@@ -1,7 +1,6 @@
 -- `selections::field::field_head` meets its contract: the field opens, with an alias and a name, or with a name. Assumes nothing.
 use Prim.Native.Nat.{◌+◌}
 use native.Mathlib.Omega.{arith}
-use borrow.Author.Rules.{rules}
 use Rattle.parser.proofs.Events.{puts_then}
 use Rattle.parser.specs.View.{token_of}
 use Rattle.parser.proofs.Moves.{narrow}

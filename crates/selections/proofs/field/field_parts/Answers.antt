@@ -1,7 +1,6 @@
 -- `selections::field::field_parts` meets its contract: the names, then arguments, then directives. Assumes nothing.
 use mathlib.Core.Bool.{false}
 use mathlib.Core.List.{[], ◌∷◌}
-use borrow.Author.Rules.{rules}
 use Rattle.syntax.specs.Machine.{opt_directives, opt_selection_set, close}
 use Rattle.parser.proofs.Onward.{ready, onto, below}
 use Rattle.selections.proofs.field.field_parts.Goals as goal

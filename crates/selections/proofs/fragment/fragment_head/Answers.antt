@@ -1,7 +1,6 @@
 -- `selections::fragment::fragment_head` meets its contract: the `...`, and a type condition or none. Assumes nothing.
 use Prim.Native.Nat.{◌+◌}
 use native.Mathlib.Omega.{arith}
-use borrow.Author.Rules.{rules}
 use Rattle.parser.specs.View.{token_of}
 use Rattle.parser.proofs.Moves.{narrow}
 use Rattle.selections.proofs.Fragments.{with_type, without_type}

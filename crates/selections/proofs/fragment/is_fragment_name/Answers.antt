@@ -1,7 +1,6 @@
 -- `selections::fragment::is_fragment_name` meets its contract. Assumes nothing.
 use mathlib.Core.Path.{◌∙◌}
 use borrow.Author.Tests.{ne_eqb}
-use borrow.Author.Rules.{rules}
 use Rattle.syntax.specs.Token.{is_fragment_name}
 use Rattle.selections.proofs.fragment.is_fragment_name.Goals as goal
 

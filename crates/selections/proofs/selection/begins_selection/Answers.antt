@@ -1,7 +1,6 @@
 -- `selections::selection::begins_selection` meets its contract. Assumes nothing.
 use mathlib.Core.Path.{◌∙◌}
 use borrow.Author.Tests.{ne_eqb}
-use borrow.Author.Rules.{rules}
 use Rattle.selections.specs.Follows.{begins_selection}
 use Rattle.selections.proofs.selection.begins_selection.Goals as goal
 

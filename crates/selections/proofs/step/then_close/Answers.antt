@@ -2,7 +2,6 @@
 use native.Mathlib.Omega.{arith}
 use Rattle.parser.proofs.Onward.{closed}
 use Rattle.selections.proofs.Ready.{ready_done, goes_done, goes_stop}
-use borrow.Author.Rules.{rules}
 use Rattle.selections.proofs.step.then_close.Goals as goal
 
 pub put_close-requires : goal.put_close-requires

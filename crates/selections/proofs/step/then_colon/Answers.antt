@@ -1,6 +1,5 @@
 -- `selections::step::then_colon` meets its contract. Assumes nothing.
 use Rattle.selections.proofs.Ready.{ready_done, goes_stop, goes_outcome}
-use borrow.Author.Rules.{rules}
 use Rattle.selections.proofs.step.then_colon.Goals as goal
 
 pub colon-requires : goal.colon-requires

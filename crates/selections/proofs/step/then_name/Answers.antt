@@ -1,6 +1,5 @@
 -- `selections::step::then_name` meets its contract. Assumes nothing.
 use Rattle.selections.proofs.Ready.{ready_done, goes_stop, goes_outcome}
-use borrow.Author.Rules.{rules}
 use Rattle.selections.proofs.step.then_name.Goals as goal
 
 pub name-requires : goal.name-requires

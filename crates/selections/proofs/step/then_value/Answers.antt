@@ -1,6 +1,5 @@
 -- `selections::step::then_value` meets its contract. Assumes nothing.
 use Rattle.selections.proofs.Ready.{ready_done, goes_stop, goes_outcome}
-use borrow.Author.Rules.{rules}
 use Rattle.selections.proofs.step.then_value.Goals as goal
 
 pub value-requires : goal.value-requires

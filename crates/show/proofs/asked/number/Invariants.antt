@@ -1,6 +1,5 @@
--- INV
+-- `show::asked::number` is safe and ends. Assumes nothing.
 use Prim.Native.Nat.{◌≤◌, ◌-◌}
-use borrow.Author.Rules.{rules}
 use lib.ListN.{length}
 use Rattle.show.proofs.asked.number.Given as goal
 

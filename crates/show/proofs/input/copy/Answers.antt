@@ -1,9 +1,7 @@
--- `show::input::copy` is safe and ends. Assumes nothing.
-use mathlib.Core.Path.{◌≡◌}
-use Prim.Native.Nat.{◌≤◌, ◌-◌}
+-- `show::input::copy` meets its contract. Assumes nothing.
 use native.Mathlib.Omega.{arith}
 use borrow.Author.Rules.{rules}
-use lib.ListN.{length, length-set}
+use lib.ListN.{length-set}
 use Rattle.show.proofs.input.copy.Goals as goal
 
 pub loop-i-preserved : goal.loop-i-preserved

@@ -1,6 +1,5 @@
--- INV
+-- `show::input::read_text` is safe and ends. Assumes nothing.
 use mathlib.Core.Path.{◌≡◌}
-use borrow.Author.Rules.{rules}
 use lib.ListN.{length}
 use Rattle.show.proofs.input.read_text.Given as goal
 

@@ -1,14 +1,11 @@
 -- A type and a type but for its `!` meet their contracts, together: depth falls from one to the other. Assumes nothing.
 use native.Mathlib.Omega.{arith}
 use mathlib.Core.Path.{refl, sym, ◌∙◌}
-use borrow.Author.Rules.{rules}
 use borrow.Author.Tests.{ne_eqb}
 use Rattle.parser.proofs.Moves.{narrow}
 use Rattle.values.proofs.Steps.{name_kind}
 use Rattle.typerefs.specs.Walk.{walked, refused}
 use Rattle.typerefs.proofs.Walks.{base_name, base_other, base_deep, below_name, list_walk, list_stop, type_walk, type_stop, walked_as, walked_inside}
-use Prim.Native.Nat.{ℕ, ◌<◌, ◌+◌, ◌*◌}
-use Rattle.typerefs.proofs.ty.+types.Tie.{close}
 use Rattle.typerefs.proofs.ty.+types.Goals as goal
 
 pub base_type-overflow_add-result : goal.base_type-overflow_add-result

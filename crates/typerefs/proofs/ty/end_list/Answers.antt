@@ -1,7 +1,6 @@
 -- `typerefs::ty::end_list` meets its contract. Assumes nothing.
 use native.Mathlib.Omega.{arith}
 use mathlib.Core.Path.{refl}
-use borrow.Author.Rules.{rules}
 use borrow.Author.Tests.{eq-eqb, ne_eqb}
 use Rattle.parser.specs.View.{rest, token_of}
 use Rattle.typerefs.specs.Walk.{closed, unclosed}

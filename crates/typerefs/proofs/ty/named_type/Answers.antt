@@ -2,13 +2,11 @@
 use mathlib.Core.Path.{refl, sym, ◌∙◌}
 use native.Mathlib.Omega.{arith}
 use mathlib.Core.List.{[], ◌∷◌}
-use borrow.Author.Tests.{not-true, not-false}
 use Rattle.syntax.specs.Machine.{named_type}
 use Rattle.parser.specs.Promise.{took, stopped}
 use Rattle.parser.proofs.Moves.{narrow, took_one, stop_one}
 use Rattle.values.proofs.Steps.{name_kind}
 use Rattle.typerefs.proofs.Steps.{at_named_type_lem, no_named_type}
-use borrow.Author.Rules.{rules}
 use Rattle.typerefs.proofs.ty.named_type.Goals as goal
 
 pub returns-then-not-is_name : goal.returns-then-not-is_name

@@ -1,7 +1,6 @@
 -- `typerefs::ty::note` meets its contract. Assumes nothing.
 use native.Mathlib.Omega.{arith}
 use lib.Seq.{get_or-set_same, get_or-set_other}
-use borrow.Author.Rules.{rules}
 use Rattle.typerefs.proofs.ty.note.Goals as goal
 
 pub returns : goal.returns

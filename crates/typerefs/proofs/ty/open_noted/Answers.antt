@@ -1,5 +1,4 @@
 -- `typerefs::ty::open_noted` meets its contract. Assumes nothing.
-use borrow.Author.Rules.{rules}
 use borrow.Author.Tests.{eq-eqb, ne_eqb}
 use Rattle.parser.proofs.Events.{puts_none}
 use Rattle.typerefs.proofs.ty.open_noted.Goals as goal

@@ -1,7 +1,6 @@
 -- `typerefs::ty::ty` meets its contract. Assumes nothing.
 use native.Mathlib.Omega.{arith}
 use mathlib.Core.Path.{refl}
-use borrow.Author.Rules.{rules}
 use Rattle.typerefs.specs.Promise.{withheld}
 use Rattle.typerefs.proofs.Walks.{walked_as, walked_after, type_given, type_withheld}
 use Rattle.typerefs.proofs.ty.ty.Goals as goal

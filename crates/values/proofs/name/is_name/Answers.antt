@@ -2,7 +2,6 @@
 use mathlib.Core.Path.{◌∙◌}
 use borrow.Author.Tests.{ne_eqb}
 use Rattle.syntax.specs.Token.{is_name}
-use borrow.Author.Rules.{rules}
 use Rattle.values.proofs.name.is_name.Goals as goal
 
 pub returns-then-kind-eq-NAME : goal.returns-then-kind-eq-NAME

@@ -2,12 +2,10 @@
 use mathlib.Core.Path.{refl, sym, ◌∙◌}
 use native.Mathlib.Omega.{arith}
 use mathlib.Core.List.{[], ◌∷◌}
-use borrow.Author.Tests.{not-true, not-false}
 use Rattle.syntax.specs.Machine.{name}
 use Rattle.parser.specs.Promise.{took, stopped}
 use Rattle.parser.proofs.Moves.{narrow, took_one, stop_one}
 use Rattle.values.proofs.Steps.{name_kind, at_name_lem, no_name}
-use borrow.Author.Rules.{rules}
 use Rattle.values.proofs.name.name.Goals as goal
 
 pub returns-then-not-is_name : goal.returns-then-not-is_name

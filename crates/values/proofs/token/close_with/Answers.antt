@@ -1,6 +1,5 @@
 -- `values::token::close_with` meets its contract. Assumes nothing.
 use Rattle.parser.proofs.Events.{puts_then}
-use borrow.Author.Rules.{rules}
 use Rattle.values.proofs.token.close_with.Goals as goal
 
 pub returns : goal.returns

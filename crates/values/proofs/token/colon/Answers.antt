@@ -6,7 +6,6 @@ use Rattle.syntax.specs.Machine.{colon_due}
 use Rattle.parser.specs.Promise.{took, stopped}
 use Rattle.parser.proofs.Moves.{narrow, took_one, stop_one}
 use Rattle.values.proofs.Steps.{at_colon_lem, no_colon}
-use borrow.Author.Rules.{rules}
 use Rattle.values.proofs.token.colon.Goals as goal
 
 pub returns-then-token-ne-COLON : goal.returns-then-token-ne-COLON

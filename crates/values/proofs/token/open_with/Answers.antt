@@ -1,6 +1,5 @@
 -- `values::token::open_with` meets its contract. Assumes nothing.
 use Rattle.parser.proofs.Events.{puts_then}
-use borrow.Author.Rules.{rules}
 use Rattle.values.proofs.token.open_with.Goals as goal
 
 pub returns : goal.returns

@@ -1,18 +1,13 @@
 -- Values, lists, objects and their fields meet their contracts, together: depth falls from one to the other. Assumes nothing.
-use mathlib.Core.Path.{◌≡◌, refl, sym, ◌∙◌}
+use mathlib.Core.Path.{refl, sym, ◌∙◌}
 use mathlib.Core.List.{[], ◌∷◌}
 use native.Mathlib.Omega.{arith}
-use borrow.Author.Rules.{rules}
-use borrow.Author.Tests.{not-true, not-false}
-use lib.ListN.{length}
-use Rattle.rules.specs.Items.{items as items_of}
-use Rattle.syntax.specs.Machine.{value as value_due, items as items_due, fields, close}
+use Rattle.syntax.specs.Machine.{value as value_due, fields, close}
 use Rattle.parser.specs.View.{token_of}
 use Rattle.parser.specs.Promise.{took, stopped}
-use Rattle.parser.proofs.Moves.{narrow, took_one, took_closed, stop_one, then, was_done, was_stopped, Passed, begun, passed_more}
+use Rattle.parser.proofs.Moves.{narrow, took_one, took_closed, stop_one, then, was_done, was_stopped, begun, passed_more}
 use Rattle.values.proofs.Steps.{scalar_kind, enum_kind_lem, at_scalar, at_enum, no_value_lem, in_constant}
 use Rattle.values.proofs.Loops.{list_then, object_then, list_end, list_eof, list_no_depth, list_value_item, object_end, object_stop, field_no_depth, field_value}
-use Prim.Native.Nat.{ℕ, ◌<◌, ◌+◌, ◌-◌, ◌*◌}
 use Rattle.values.proofs.value.+values.Goals as goal
 
 pub list_value-open_with-o-requires : goal.list_value-open_with-o-requires

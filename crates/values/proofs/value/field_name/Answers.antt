@@ -7,7 +7,6 @@ use Rattle.syntax.specs.Machine.{fields, colon_due, deeper, close}
 use Rattle.parser.specs.View.{token_of}
 use Rattle.parser.proofs.Moves.{narrow, took_one, then, above}
 use Rattle.values.proofs.Steps.{name_kind, object_name}
-use borrow.Author.Rules.{rules}
 use Rattle.values.proofs.value.field_name.Goals as goal
 
 pub put_open-opened-requires : goal.put_open-opened-requires

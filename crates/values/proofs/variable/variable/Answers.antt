@@ -8,7 +8,6 @@ use Rattle.parser.specs.View.{token_of}
 use Rattle.parser.specs.Promise.{took, stopped}
 use Rattle.parser.proofs.Moves.{narrow, took_one, took_closed, was_done, was_stopped, then, above}
 use Rattle.values.proofs.Steps.{at_variable}
-use borrow.Author.Rules.{rules}
 use Rattle.values.proofs.variable.variable.Goals as goal
 
 pub open_with-opened-requires : goal.open_with-opened-requires

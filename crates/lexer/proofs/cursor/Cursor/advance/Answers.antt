@@ -12,7 +12,6 @@ use Rattle.base.specs.Lexed.{lexed_of, size_of}
 use Rattle.base.specs.declared.lexed.Lexed.{Lexed}
 use Rattle.lexer.specs.Cursor.{advanced_of}
 use Rattle.base.proofs.Found.{size_lexed}
-use borrow.Author.Rules.{rules}
 use Rattle.lexer.proofs.cursor.Cursor.advance.Goals as goal
 
 -- what was found is the item of what is left of the text
