@@ -1,6 +1,6 @@
 /* Paumelu's C interface: the items of a GraphQL text, as spans that are proved right to the byte.
  *
- * Link target/staticlib/libpaumelu.a, which `rt staticlib paumelu` proves and writes. */
+ * Link target/staticlib/libpaumelu.a, which `host/library` proves and writes. */
 #ifndef PAUMELU_H
 #define PAUMELU_H
 

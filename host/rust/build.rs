@@ -9,6 +9,6 @@ fn main() {
         println!("cargo::rustc-link-search=native={}", folder.display());
         println!("cargo::rustc-link-lib=static=paumelu");
     } else {
-        println!("cargo::error=target/staticlib/libpaumelu.a is missing: run `rt staticlib paumelu` at the top of the repository");
+        println!("cargo::error=target/staticlib/libpaumelu.a is missing: run host/library at the top of the repository");
     }
 }

@@ -1,6 +1,6 @@
 //! Paumelu for Rust: the items of a GraphQL text, as spans that are proved right to the byte.
 //!
-//! The reader is the proved library that `rt staticlib paumelu` writes; this crate calls its C interface and looks at the tape. No rule
+//! The reader is the proved library that `host/library` writes; this crate calls its C interface and looks at the tape. No rule
 //! of GraphQL stands here, and nothing is tested here that the library refuses by a number.
 //!
 //! ```

@@ -1,0 +1,2 @@
+-- What C calls has one result.
+pub mod Unique
