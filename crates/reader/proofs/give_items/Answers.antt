@@ -1,5 +1,6 @@
 -- `reader::give_items` meets its contract. Assumes nothing.
-use mathlib.Core.Path.{◌∙◌}
+use mathlib.Core.Path.{◌≡◌, ◌∙◌}
+use borrow.Author.Rules.{rules}
 use native.Mathlib.Omega.{arith}
 use Rattle.rules.specs.Items.{item_at}
 use Rattle.rules.proofs.Bounds.{item_pos, item_le}
@@ -18,9 +19,10 @@ returns-then-n-limit c = record {
 
 pub returns-then-n-space : goal.returns-then-n-space
 returns-then-n-space c = let f = c.if-n-space.true ∙ c.loop-n.invariant.all in
+    let limit_tested : c.loop-n.n ≡ c.args.limit → ⊥ = search rules in
     record {
-      answer = at_room item_at item_pos item_le c.args.text.now c.args.tape.now c.args.limit c.loop-n.tape c.loop-n.cursor.index c.loop-n.n c.loop-n.invariant.state c.if-n-limit.false f;
-      tape = at_room_tape item_at item_pos item_le c.args.text.now c.args.tape.now c.args.limit c.loop-n.tape c.loop-n.cursor.index c.loop-n.n c.loop-n.invariant.state c.if-n-limit.false f;
+      answer = at_room item_at item_pos item_le c.args.text.now c.args.tape.now c.args.limit c.loop-n.tape c.loop-n.cursor.index c.loop-n.n c.loop-n.invariant.state limit_tested f;
+      tape = at_room_tape item_at item_pos item_le c.args.text.now c.args.tape.now c.args.limit c.loop-n.tape c.loop-n.cursor.index c.loop-n.n c.loop-n.invariant.state limit_tested f;
     }
 
 pub advance-found-requires : goal.advance-found-requires
