@@ -119,7 +119,8 @@ fn first_error(text: &[u8], items: &[u8], count: usize) -> usize
     let mut i = 0;
     while i < count {
         let e = tape::get_entry(items, i);
-        if e.code >= item::ERROR {
+        let is_error = e.code >= item::ERROR;
+        if is_error {
             return i;
         }
         i += 1;
@@ -140,7 +141,8 @@ pub fn read(
     ensures items { items.new ≡ grammar_items text.now limit depth items.old }
     ensures events { events.new ≡ grammar_events entry text.now limit depth items.old events.old }
 {
-    if depth > refusal::DEEPEST {
+    let past_deepest = depth > refusal::DEEPEST;
+    if past_deepest {
         return Answer {
             number: refusal::DEPTH_LIMIT,
             place: 0,

@@ -52,7 +52,7 @@ fn put_name<R: Env>(rt: &R, out: &mut [u8; 65536], at: usize) -> usize
     }
 }
 
-// One read of the head. `event` is how many bytes it gave.
+// The next 4,096 bytes of the head, or what is left of it. `event` is how many they are.
 fn put_some_head(out: &mut [u8; 65536], at: usize) -> Mark
     requires { Place at }
     ensures { Place result.at }
@@ -65,7 +65,7 @@ fn put_some_head(out: &mut [u8; 65536], at: usize) -> Mark
     }
 }
 
-// The head to its end: at most a thousand reads, as a proved loop has to end.
+// The head to its end: at most a thousand times that, as a proved loop has to end.
 fn put_head(out: &mut [u8; 65536], at: usize) -> usize
     requires { Place at }
     ensures { Place result }

@@ -76,7 +76,7 @@ pub fn read_selection_set(
     )
 }
 
-// Reads items for C, by the entry code 0: the number is the result; place, items and events are written behind references.
+// What C calls, as `paumelu_c` exports it: reads items by the entry code 0. The number is the result; place, items and events are written behind references.
 pub fn paumelu_read(
     entry: u64,
     text: &[u8],
@@ -92,7 +92,8 @@ pub fn paumelu_read(
     ensures events { events.new ≡ (interface_answer entry text.now limit tape.old).events }
     ensures tape { tape.new ≡ interface_tape entry text.now limit tape.old }
 {
-    if entry != refusal::READ_ITEMS {
+    let is_unknown = entry != refusal::READ_ITEMS;
+    if is_unknown {
         *place = 0;
         *items = 0;
         *events = 0;

@@ -88,7 +88,7 @@ fn write_part(text: &[u8], start: u64, length: u64) -> bool {
     io::write_all(STDOUT, part)
 }
 
-// Reads through the C interface: its three outputs hold A5 in every byte before the call.
+// Reads as C does, by the call that `paumelu_c` exports: its three outputs hold A5 in every byte before the call.
 fn read_by_interface(entry: u64, text: &[u8], limit: u64, items: &mut [u8]) -> paumelu::Answer {
     let mut place: u64 = 0xA5A5_A5A5_A5A5_A5A5;
     let mut count: u64 = 0xA5A5_A5A5_A5A5_A5A5;

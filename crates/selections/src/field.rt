@@ -39,7 +39,8 @@ fn field_head(text: &[u8], items: &[u8], token: Peeked, events: &mut [u8], out: 
 {
     let opened = parser::put_open(events, out, node::FIELD, token.start);
     let colon = parser::peek_token(text, items, token.next);
-    if colon.kind != item::COLON {
+    let is_unaliased = colon.kind != item::COLON;
+    if is_unaliased {
         return Step::Done {
             next: token.next,
             end: token.start + token.size,

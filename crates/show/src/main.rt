@@ -1,6 +1,6 @@
 // The program behind the script `paumelu`: it reads standard input with the proved reader and prints what is asked (`asked.rt`).
 //
-// The script needs to know how the run ended, and a program has no exit status: so the last thing that it writes is a digit on descriptor 3, where it
+// The script needs to know how the run ended, and this program sets no exit status: so the last thing that it writes is a digit on descriptor 3, where it
 // is told to. 0: all was read; 1: there was a refusal or an error item; 2: the text was not read; 3: a part whose span passes the text's end.
 #![tactic(auto)]
 

@@ -38,7 +38,8 @@ pub fn colon(text: &[u8], items: &[u8], at: usize, events: &mut [u8], out: usize
     ensures { (c : Bool) (l : ℕ) → Outcome c text.now (colon_due ∷ []) [] l at events.old out events.new result }
 {
     let token = parser::peek_token(text, items, at);
-    if token.kind != codes::item::COLON {
+    let lacks_colon = token.kind != codes::item::COLON;
+    if lacks_colon {
         return Step::Stop {
             number: codes::refusal::NO_SENTENCE,
             place: token.start,

@@ -14,10 +14,10 @@ loop-i-init c = (omega arith, omega arith)
 pub get_entry-e-requires : goal.get_entry-e-requires
 get_entry-e-requires c = omega (arith, c.requires.holds.roomy, c.requires.count_value, c.loop-i-test.true)
 
-pub returns-then-e-ge-ERROR : goal.returns-then-e-ge-ERROR
-returns-then-e-ge-ERROR c = let n : c.loop-i.i < length (items_of c.args.text.now) = omega (arith, c.requires.count_value, c.loop-i-test.true) in
+pub returns-then-is_error : goal.returns-then-is_error
+returns-then-is_error c = let n : c.loop-i.i < length (items_of c.args.text.now) = omega (arith, c.requires.count_value, c.loop-i-test.true) in
     let e = ap (λ (x : Item). x.code) (c.get_entry-e.ensures ∙ c.requires.holds.entries c.loop-i.i n) in
-    error_here (items_of c.args.text.now) c.loop-i.i c.loop-i.invariant.1 n (omega (arith, e, c.if-e-ge-ERROR.true))
+    error_here (items_of c.args.text.now) c.loop-i.i c.loop-i.invariant.1 n (omega (arith, e, c.if-is_error.true))
 
 pub overflow_add-i : goal.overflow_add-i
 overflow_add-i c = omega (arith, c.loop-i-test.true, c.requires.count_value, c.requires.holds.roomy)
@@ -28,7 +28,7 @@ loop-i-smaller c = omega (arith, c.loop-i-test.true)
 pub loop-i-preserved : goal.loop-i-preserved
 loop-i-preserved c = let n : c.loop-i.i < length (items_of c.args.text.now) = omega (arith, c.requires.count_value, c.loop-i-test.true) in
     let e = ap (λ (x : Item). x.code) (c.get_entry-e.ensures ∙ c.requires.holds.entries c.loop-i.i n) in
-    (omega (arith, c.loop-i-test.true), no_error_here (items_of c.args.text.now) c.loop-i.i c.loop-i.invariant.1 n (omega (arith, e, c.if-e-ge-ERROR.false)))
+    (omega (arith, c.loop-i-test.true), no_error_here (items_of c.args.text.now) c.loop-i.i c.loop-i.invariant.1 n (omega (arith, e, c.if-is_error.false)))
 
 pub returns : goal.returns
 returns c = omega (arith, c.requires.count_value, c.loop-i.invariant.0, c.loop-i-test.false, no_error (items_of c.args.text.now) c.loop-i.i c.loop-i.invariant.1 (omega (arith, c.requires.count_value, c.loop-i-test.false)))

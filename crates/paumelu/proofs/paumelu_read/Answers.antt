@@ -4,8 +4,8 @@ use Rattle.reader.specs.declared.Answer.{Answer}
 use Rattle.paumelu.proofs.Codes.{unknown_entry, item_entry}
 use Rattle.paumelu.proofs.paumelu_read.Goals as goal
 
-pub returns-then-entry-ne-READ_ITEMS : goal.returns-then-entry-ne-READ_ITEMS
-returns-then-entry-ne-READ_ITEMS c = let e = unknown_entry c.args.entry c.args.text.now c.args.limit c.args.tape.now c.if-entry-ne-READ_ITEMS.true in
+pub returns-then-is_unknown : goal.returns-then-is_unknown
+returns-then-is_unknown c = let e = unknown_entry c.args.entry c.args.text.now c.args.limit c.args.tape.now c.if-is_unknown.true in
     record {
       number = ap (λ (a : Answer). a.number) e.0;
       place = ap (λ (a : Answer). a.place) e.0;
@@ -15,7 +15,7 @@ returns-then-entry-ne-READ_ITEMS c = let e = unknown_entry c.args.entry c.args.t
     }
 
 pub returns : goal.returns
-returns c = let e = item_entry c.args.entry c.args.text.now c.args.limit c.args.tape.now c.if-entry-ne-READ_ITEMS.false _ _ c.read_items-a.ensures.answer c.read_items-a.ensures.tape in
+returns c = let e = item_entry c.args.entry c.args.text.now c.args.limit c.args.tape.now c.if-is_unknown.false _ _ c.read_items-a.ensures.answer c.read_items-a.ensures.tape in
     record {
       number = ap (λ (a : Answer). a.number) e.0;
       place = ap (λ (a : Answer). a.place) e.0;

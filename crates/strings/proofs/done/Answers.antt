@@ -5,10 +5,10 @@ use Rattle.strings.specs.String.{done_code}
 use Rattle.base.proofs.Found.{token_lexed, error_lexed}
 use Rattle.strings.proofs.done.Goals as goal
 
-pub returns-then-fault-ne-NONE : goal.returns-then-fault-ne-NONE
+pub returns-then-is_faulty : goal.returns-then-is_faulty
 unfolding done_code
-returns-then-fault-ne-NONE c = rw (ne_eqb _ 0 c.if-fault-ne-NONE.true) (error_lexed _ _)
+returns-then-is_faulty c = rw (ne_eqb _ 0 c.if-is_faulty.true) (error_lexed _ _)
 
 pub returns : goal.returns
 unfolding done_code
-returns c = rw (eq-eqb _ 0 c.if-fault-ne-NONE.false) (token_lexed 19 _ (omega arith))
+returns c = rw (eq-eqb _ 0 c.if-is_faulty.false) (token_lexed 19 _ (omega arith))

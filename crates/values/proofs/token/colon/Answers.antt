@@ -8,8 +8,8 @@ use Rattle.parser.proofs.Moves.{narrow, took_one, stop_one}
 use Rattle.values.proofs.Steps.{at_colon_lem, no_colon}
 use Rattle.values.proofs.token.colon.Goals as goal
 
-pub returns-then-token-ne-COLON : goal.returns-then-token-ne-COLON
-returns-then-token-ne-COLON c = λ b l. stopped refl (stop_one b c.args.text.now l _ c.peek_token-token.result c.peek_token-token.ensures (colon_due ∷ []) 9 (λ K. no_colon b l _ K c.if-token-ne-COLON.true))
+pub returns-then-lacks_colon : goal.returns-then-lacks_colon
+returns-then-lacks_colon c = λ b l. stopped refl (stop_one b c.args.text.now l _ c.peek_token-token.result c.peek_token-token.ensures (colon_due ∷ []) 9 (λ K. no_colon b l _ K c.if-lacks_colon.true))
 
 pub overflow_add-result : goal.overflow_add-result
 overflow_add-result c = omega (arith, narrow c.args.text.now c.args.items.now _ c.peek_token-token.result c.requires.holds c.peek_token-token.ensures)
@@ -17,10 +17,10 @@ overflow_add-result c = omega (arith, narrow c.args.text.now c.args.items.now _ 
 pub put_token-requires : goal.put_token-requires
 put_token-requires c = let n = narrow c.args.text.now c.args.items.now _ c.peek_token-token.result c.requires.holds c.peek_token-token.ensures in
     record {
-      kind_bound = omega (arith, c.if-token-ne-COLON.false);
+      kind_bound = omega (arith, c.if-lacks_colon.false);
       start_bound = omega arith;
       size_bound = omega arith;
     }
 
 pub returns : goal.returns
-returns c = λ b l. took (took_one b c.args.text.now l _ c.peek_token-token.result c.peek_token-token.ensures (colon_due ∷ []) [] _ _ _ _ _ (λ K. at_colon_lem b l _ K c.if-token-ne-COLON.false) (λ z. omega (arith, c.if-token-ne-COLON.false)) c.put_token.ensures)
+returns c = λ b l. took (took_one b c.args.text.now l _ c.peek_token-token.result c.peek_token-token.ensures (colon_due ∷ []) [] _ _ _ _ _ (λ K. at_colon_lem b l _ K c.if-lacks_colon.false) (λ z. omega (arith, c.if-lacks_colon.false)) c.put_token.ensures)
