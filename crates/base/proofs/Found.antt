@@ -4,6 +4,9 @@ use mathlib.Core.Path.{◌≡◌}
 use native.Mathlib.Omega.{arith}
 use borrow.Author.Tests.{lt-ltb, le-ltb, ltb-false}
 use lib.Dec.{ltb}
+use Rattle.codes.specs.declared.kind.Kind.{Kind}
+use Rattle.codes.specs.KindNumbers.{number_of}
+use Rattle.codes.proofs.KindLaws.{kind_below}
 use Rattle.base.specs.Item.{Lexeme, lexeme}
 use Rattle.base.proofs.Tests.{by}
 use Rattle.base.specs.declared.lexed.Lexed.TheVariants.{Token, Error}
@@ -12,6 +15,9 @@ use Rattle.base.specs.Lexed.{lexed_of, code_of, size_of}
 pub token_lexed : (k n : ℕ) → k < 64 → Token k n ≡ lexed_of (lexeme k n)
 unfolding lexed_of
 token_lexed k n h = rw (lt-ltb k 64 h)
+
+pub kind_lexed : (k : Kind) (n : ℕ) → Token (number_of k) n ≡ lexed_of (lexeme (number_of k) n)
+kind_lexed k n = token_lexed (number_of k) n (kind_below k)
 
 pub error_lexed : (f n : ℕ) → Error f n ≡ lexed_of (lexeme (64 + f) n)
 unfolding lexed_of

@@ -1,13 +1,36 @@
 // What stands at a place of the text: a token of a kind, or an error.
 ghost use Rattle.std.specs.Prelude.{◌≡◌, ◌<◌};
 ghost use Rattle.base.specs.Lexed.{code_of, size_of};
+ghost use Rattle.codes.specs.KindNumbers as kinds;
+ghost use Rattle.codes.specs.FaultNumbers as faults;
 
-use codes::item;
+use codes::{Fault, Kind, kind};
 
+// Stays: `code_of` and `size_of` promise their result for any numbers, and `own_token` and `own_fault` (lexer/proofs/Own.antt) speak of them.
 #[derive(Clone, Copy)]
 pub enum Lexed {
     Token { kind: u8, size: usize },
     Error { fault: u8, size: usize },
+}
+
+impl Lexed {
+    pub fn token(kind: Kind, size: usize) -> Lexed
+        ensures { result ≡ Lexed.Token (kinds.number_of kind) size }
+    {
+        Lexed::Token {
+            kind: kind.into(),
+            size,
+        }
+    }
+
+    pub fn error(fault: Fault, size: usize) -> Lexed
+        ensures { result ≡ Lexed.Error (faults.number_of fault) size }
+    {
+        Lexed::Error {
+            fault: fault.into(),
+            size,
+        }
+    }
 }
 
 // Document 01's code of an item.
@@ -16,8 +39,8 @@ pub fn code_of(item: Lexed) -> u8
     ensures { result ≡ code_of item }
 {
     match item {
-        Lexed::Token { kind, size: _ } => kind,
-        Lexed::Error { fault, size: _ } => item::ERROR + fault,
+        Lexed::Token { kind, .. } => kind,
+        Lexed::Error { fault, .. } => kind::ERROR + fault,
     }
 }
 
@@ -25,7 +48,6 @@ pub fn size_of(item: Lexed) -> usize
     ensures { result ≡ size_of item }
 {
     match item {
-        Lexed::Token { kind: _, size } => size,
-        Lexed::Error { fault: _, size } => size,
+        Lexed::Token { size, .. } | Lexed::Error { size, .. } => size,
     }
 }

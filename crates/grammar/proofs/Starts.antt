@@ -12,12 +12,15 @@ use Rattle.rules.specs.Items.{items}
 use Rattle.rules.proofs.Tiling.{eof_position}
 use Rattle.syntax.specs.Token.{eof, Token}
 use Rattle.syntax.specs.Words.{tokens}
-use Rattle.syntax.specs.Machine.{value, selection_set, step, refused, emits, run, read_selection_set}
+use Rattle.syntax.specs.Machine.{Read, value, selection_set, step, refused, emits, run, read_selection_set}
 use Rattle.syntax.specs.TypeReading.{TypeRead, typed, untyped, whole_type, read_type}
-use Rattle.parser.specs.declared.Step.{Step}
-use Rattle.parser.specs.declared.Step.TheVariants.{Done}
+use Rattle.std.specs.Prelude.{Result}
+use Rattle.codes.specs.declared.refusal.Refused.{Refused}
+use Rattle.parser.specs.declared.token.Reached.{Reached}
+use Rattle.parser.specs.declared.events.Events.{Events}
 use Rattle.parser.specs.View.{rest}
-use Rattle.parser.specs.Promise.{Outcome, took, stopped, Goes, goes, stops}
+use Rattle.parser.specs.Promise.{Ready, Outcome, took, Goes, went}
+use Rattle.parser.specs.Promise as outcome
 use Rattle.typerefs.specs.Promise.{TypeOutcome, given, withheld}
 use Rattle.grammar.specs.declared.Entry.{Entry}
 use Rattle.grammar.specs.declared.Entry.TheVariants.{Value, Constant, Ty, SelectionSet}
@@ -41,23 +44,25 @@ untyped_whole : {x : TypeRead} {n p : ℕ} → x ≡ untyped n p → whole_type 
 unfolding whole_type
 untyped_whole e = rw e
 
-from_value : {t tape tape' : List ℕ} {r : Step} (c : Bool) (d : ℕ) → Outcome c t (value d ∷ []) [] 0 0 tape 0 tape' r
-    → Begins (run c (value d ∷ []) 0 (tokens t)) t tape tape' r
-unfolding rest
-from_value {t} c d (took {next = next} {end = end} h) =
-    reads {end = end} h.went.events h.went.puts h.went.inside (h.went.reads [] ∙ rw (end_run c end (rest t next)))
-from_value c d (stopped k h) = promise.Begins.refuses k (h [])
+abbrev pub start : Reached
+start = record { next = 0; end = 0 }
 
-from_set : {t tape tape' : List ℕ} {r : Step} (d : ℕ) → Goes false t (selection_set d ∷ []) [] tape tape' (Done 0 0 0) r
-    → Begins (read_selection_set d (tokens t)) t tape tape' r
+from_value : {t : List ℕ} {old new : Events} {r : Result Reached Refused} (c : Bool) (d : ℕ) → Outcome c t (value d ∷ []) [] old new start r
+    → Begins (run c (value d ∷ []) 0 (tokens t)) t old new r
 unfolding rest
-from_set d (goes h) = reads h.events h.puts h.inside (h.reads [])
-from_set d (stops k h) = promise.Begins.refuses k (h [])
+from_value {t} c d (took {to = to} h) = reads h.went.events h.went.wrote h.went.ready.inside (h.went.same [] ∙ rw (end_run c to.end (rest t to.next)))
+from_value c d (outcome.stopped h) = promise.Begins.refuses h.same h.kept (h.refuses [])
 
-from_type : {t tape tape' : List ℕ} {r : Step} (d : ℕ) → TypeOutcome t d 0 tape 0 tape' r → Begins (read_type d (tokens t)) t tape tape' r
+from_set : {t : List ℕ} {old new : Events} {r : Result Reached Refused} (d : ℕ) → Goes false t (selection_set d ∷ []) [] old new start r
+    → Begins (read_selection_set d (tokens t)) t old new r
 unfolding rest
-from_type {t} d (given {next = next} {end = end} es h w i) = reads es w i (ap whole_type h ∙ end_type es end (rest t next))
-from_type d (withheld k h) = promise.Begins.refuses k (untyped_whole h)
+from_set d (went h) = reads h.events h.wrote h.ready.inside (h.same [])
+from_set d (outcome.Goes.stopped h) = promise.Begins.refuses h.same h.kept (h.refuses [])
+
+from_type : {t : List ℕ} {old new : Events} {r : Result Reached Refused} (d : ℕ) → TypeOutcome t d 0 old new r → Begins (read_type d (tokens t)) t old new r
+unfolding rest
+from_type {t} d (given {to = to} es h w i) = reads es w i (ap whole_type h ∙ end_type es to.end (rest t to.next))
+from_type d (withheld s k h) = promise.Begins.refuses s k (untyped_whole h)
 
 -- ---- by entry
 
@@ -65,19 +70,28 @@ from_type d (withheld k h) = promise.Begins.refuses k (untyped_whole h)
 pub some_item : (t : List ℕ) → 0 < length (items t)
 some_item t = let h = eof_position t in omega arith
 
-module _ {t tape tape' : List ℕ} {r : Step} (e : Entry) (d : ℕ) where
-  pub by_value : e ≡ Value → Outcome false t (value d ∷ []) [] 0 0 tape 0 tape' r → Begins (read_of e d (tokens t)) t tape tape' r
+-- so reading can begin there
+pub ready_start : (t : List ℕ) → Ready t start
+ready_start t = record { inside = some_item t; fits = omega arith }
+
+module _ {t : List ℕ} {old new : Events} {r : Result Reached Refused} (e : Entry) (d : ℕ) where
+  pub by_value : e ≡ Value → Outcome false t (value d ∷ []) [] old new start r → Begins (read_of e d (tokens t)) t old new r
   unfolding read_of
   by_value q h = rw q (from_value false d h)
 
-  pub by_constant : e ≡ Constant → Outcome true t (value d ∷ []) [] 0 0 tape 0 tape' r → Begins (read_of e d (tokens t)) t tape tape' r
+  pub by_constant : e ≡ Constant → Outcome true t (value d ∷ []) [] old new start r → Begins (read_of e d (tokens t)) t old new r
   unfolding read_of
   by_constant q h = rw q (from_value true d h)
 
-  pub by_type : e ≡ Ty → TypeOutcome t d 0 tape 0 tape' r → Begins (read_of e d (tokens t)) t tape tape' r
+  pub by_type : e ≡ Ty → TypeOutcome t d 0 old new r → Begins (read_of e d (tokens t)) t old new r
   unfolding read_of
   by_type q h = rw q (from_type d h)
 
-  pub by_set : e ≡ SelectionSet → Goes false t (selection_set d ∷ []) [] tape tape' (Done 0 0 0) r → Begins (read_of e d (tokens t)) t tape tape' r
+  pub by_set : e ≡ SelectionSet → Goes false t (selection_set d ∷ []) [] old new start r → Begins (read_of e d (tokens t)) t old new r
   unfolding read_of
   by_set q h = rw q (from_set d h)
+
+-- the event tape is the same one
+pub same_tape : {read : Read} {t : List ℕ} {old new : Events} {r : Result Reached Refused} → Begins read t old new r → new.tape.ghost_name ≡ old.tape.ghost_name
+same_tape (reads es w i h) = w.same
+same_tape (promise.Begins.refuses s k h) = s

@@ -5,13 +5,12 @@ ghost use Rattle.std.specs.Prelude.{◌≡◌, ◌≤◌, length};
 ghost use Rattle.codes.specs.Refusals.{deepest};
 ghost use Rattle.tape.specs.Entry.{room};
 ghost use Rattle.rules.specs.Items.{items as items_of};
-ghost use Rattle.syntax.specs.Words.{tokens};
-ghost use Rattle.parser.specs.View.{Holds};
-ghost use Rattle.grammar.specs.Answers.{read_of, first_error, read_answer, counted_events, grammar_answer, grammar_items, grammar_events};
-ghost use Rattle.grammar.specs.Promise.{Begins, Parses};
+ghost use Rattle.syntax.specs.Words.{tokens as tokens_of};
+ghost use Rattle.grammar.specs.Answers.{read_of, read_answer, counted_events, grammar_answer, grammar_items, grammar_events};
+ghost use Rattle.grammar.specs.Promise.{Begins, Parses, IsFirst};
 
-use codes::{item, refusal};
-use parser::Step;
+use codes::{Kind, Refusal, Refused, kind, refusal};
+use parser::{Events, Reached, Tokens};
 use reader::Answer;
 
 // What a text is read as.
@@ -24,108 +23,88 @@ pub enum Entry {
 }
 
 // Reads what the entry names, from the first item on.
-fn begin(entry: Entry, text: &[u8], items: &[u8], depth: usize, events: &mut [u8]) -> Step
-    requires holds { Holds text.now items.now }
-    requires depth_le_deepest { depth ≤ deepest }
-    ensures { Begins (read_of entry depth (tokens text.now)) text.now events.old events.new result }
+// Stays: the bound of the depth in four contracts, as `typerefs::ty` has it, which docs/DECISIONS.md names: a type for it would ask more of its callers.
+fn begin(
+    entry: Entry,
+    tokens: &Tokens,
+    depth: usize,
+    events: &mut Events,
+) -> Result<Reached, Refused>
+    requires { depth ≤ deepest }
+    ensures same { events.new.tape.ghost_name ≡ events.old.tape.ghost_name }
+    ensures begins { Begins (read_of entry depth (tokens_of tokens.now.text.now)) tokens.now.text.now events.old events.new result }
 {
+    let start = Reached { next: 0, end: 0 };
     match entry {
-        Entry::Value => values::value::value(text, items, false, 0, depth, events, 0),
-        Entry::Constant => values::value::value(text, items, true, 0, depth, events, 0),
-        Entry::Ty => typerefs::ty::ty(text, items, 0, depth, events, 0),
-        Entry::SelectionSet => {
-            let start = Step::Done {
-                next: 0,
-                end: 0,
-                out: 0,
-            };
-            selections::then_selection_set(text, items, start, depth, events)
-        }
+        Entry::Value => values::value::value(tokens, false, start, depth, events),
+        Entry::Constant => values::value::value(tokens, true, start, depth, events),
+        Entry::Ty => typerefs::ty::ty(tokens, start, depth, events),
+        Entry::SelectionSet => selections::selection_set(tokens, start, depth, events),
     }
 }
 
-// Reads what the entry names, and then Eof.
-fn parse(entry: Entry, text: &[u8], items: &[u8], depth: usize, events: &mut [u8]) -> Step
-    requires holds { Holds text.now items.now }
-    requires depth_le_deepest { depth ≤ deepest }
-    ensures { Parses (read_of entry depth (tokens text.now)) events.old events.new result }
+// Reads what the entry names, and then Eof: how many events it gives, of which those are on the tape that have room.
+fn parse(entry: Entry, tokens: &Tokens, depth: usize, tape: &mut [u8]) -> Result<usize, Refused>
+    requires { depth ≤ deepest }
+    ensures { Parses (read_of entry depth (tokens_of tokens.now.text.now)) tape.old tape.new result }
 {
-    match begin(entry, text, items, depth, events) {
-        Step::Stop { number, place } => Step::Stop { number, place },
-        Step::Done { next, end, out } => {
-            let token = parser::peek_token(text, items, next);
-            if token.kind != item::EOF {
-                return Step::Stop {
-                    number: refusal::NO_SENTENCE,
-                    place: token.start,
-                };
-            }
-            Step::Done { next, end, out }
-        }
+    let mut events = Events::new(tape);
+    let reached = begin(entry, tokens, depth, &mut events)?;
+    let token = tokens.peek(reached.next);
+    let ends = token.kind.is(Kind::Eof);
+    if !ends {
+        return Err(token.refused(Refusal::NoSentence));
     }
+    Ok(events.count)
 }
 
 // After the items were read without a refusal, and there are `count` of them.
 fn parse_twice(
     entry: Entry,
-    text: &[u8],
-    items: &[u8],
+    tokens: &Tokens,
     count: usize,
     depth: usize,
     events: &mut [u8],
 ) -> Answer
-    requires holds { Holds text.now items.now }
-    requires depth_le_deepest { depth ≤ deepest }
-    ensures answer { result ≡ read_answer (length text.now) count (room events.old) (read_of entry depth (tokens text.now)) }
-    ensures events { events.new ≡ counted_events events.old (read_of entry depth (tokens text.now)) }
+    requires { depth ≤ deepest }
+    ensures answer { result ≡ read_answer (length tokens.now.text.now) count (room events.old) (read_of entry depth (tokens_of tokens.now.text.now)) }
+    ensures events { events.new ≡ counted_events events.old (read_of entry depth (tokens_of tokens.now.text.now)) }
 {
-    match parse(entry, text, items, depth, &mut events[..0]) {
-        Step::Stop { number, place } => Answer {
-            number,
+    match parse(entry, tokens, depth, &mut events[..0]) {
+        Err(Refused { refusal, place }) => Answer {
+            number: usize::from(refusal),
             place,
             items: count,
             events: 0,
         },
-        Step::Done {
-            next: _,
-            end: _,
-            out,
-        } => {
-            if tape::capacity(events) < out {
-                return Answer {
-                    number: refusal::EVENT_TAPE_SHORT,
-                    place: 0,
-                    items: count,
-                    events: out,
-                };
-            }
-            parse(entry, text, items, depth, events);
-            Answer {
-                number: refusal::DONE,
-                place: text.len(),
-                items: count,
-                events: out,
-            }
-        }
+        Ok(needed) if tape::capacity(events) < needed => Answer {
+            number: usize::from(Refusal::EventTapeShort),
+            place: 0,
+            items: count,
+            events: needed,
+        },
+        Ok(_) => Answer {
+            number: refusal::DONE,
+            place: tokens.text.len(),
+            items: count,
+            events: parse(entry, tokens, depth, events).unwrap(),
+        },
     }
 }
 
-// The number of the first error item among the `count` items of the tape; `count`, if none is an error.
-fn first_error(text: &[u8], items: &[u8], count: usize) -> usize
-    requires holds { Holds text.now items.now }
-    requires count_value { count ≡ length (items_of text.now) }
-    ensures { result ≡ first_error (items_of text.now) }
+// The number of the first error item among the `count` items of the tape, if one is an error.
+fn first_error(tokens: &Tokens, count: usize) -> Option<usize>
+    requires { count ≡ length (items_of tokens.now.text.now) }
+    ensures { IsFirst (items_of tokens.now.text.now) result }
 {
-    let mut i = 0;
-    while i < count {
-        let e = tape::get_entry(items, i);
-        let is_error = e.code >= item::ERROR;
+    for i in 0..count {
+        let e = tape::get_entry(tokens.items, i);
+        let is_error = e.code >= kind::ERROR;
         if is_error {
-            return i;
+            return Some(i);
         }
-        i += 1;
     }
-    count
+    None
 }
 
 // Reads the text as the entry says: items to the item tape, events to the event tape.
@@ -144,7 +123,7 @@ pub fn read(
     let past_deepest = depth > refusal::DEEPEST;
     if past_deepest {
         return Answer {
-            number: refusal::DEPTH_LIMIT,
+            number: usize::from(Refusal::DepthLimit),
             place: 0,
             items: 0,
             events: 0,
@@ -154,15 +133,15 @@ pub fn read(
     if a.number != refusal::DONE {
         return a;
     }
-    let first = first_error(text, items, a.items);
-    if first < a.items {
-        let e = tape::get_entry(items, first);
+    let tokens = Tokens { text, items };
+    if let Some(first) = first_error(&tokens, a.items) {
+        let e = tape::get_entry(tokens.items, first);
         return Answer {
-            number: refusal::ERROR_ITEM,
+            number: usize::from(Refusal::ErrorItem),
             place: e.start,
             items: a.items,
             events: 0,
         };
     }
-    parse_twice(entry, text, items, a.items, depth, events)
+    parse_twice(entry, &tokens, a.items, depth, events)
 }

@@ -57,15 +57,9 @@ punctuator_item [] k h e = absurd (not-suc-le-zero h)
 punctuator_item (b ∷ r) k h e = go r (view b) e
   where
     go : {b j : ℕ} (r : List ℕ) → Is b j → j ≡ k → 3 ≤ k → k ≤ 17 → (k ≡ 9 → ⊥) → item_at (b ∷ r) ≡ lexeme k 1
-    go r (classes.name n) e l u d = absurd (omega arith)
-    go r (classes.number n m) e l u d = absurd (omega arith)
-    go r (classes.blank w) e l u d = absurd (omega arith)
-    go r classes.quote e l u d = absurd (omega arith)
-    go r classes.hash e l u d = absurd (omega arith)
-    go r classes.minus e l u d = absurd (omega arith)
     go r classes.dot e l u d = absurd (d (sym e))
     go r (classes.punctuator s) e l u d = rw (← e) (token_item (punctuator s))
-    go r (classes.other n m w q h i p z) e l u d = absurd (omega arith)
+    go r _ e l u d = absurd (omega arith)
 
 -- `.` without a second one
 pub one_dot_lem : (t : List ℕ) → 0 < length t → get_or t 0 0 ≡ 46 → (get_or t 1 0 ≡ 46 → ⊥) → item_at t ≡ lexeme 74 (1 + size (drop 1 t))
@@ -107,16 +101,10 @@ other_item [] h e w = absurd (not-suc-le-zero h)
 other_item (b ∷ r) h e w = go r (view b) w e
   where
     go : {b j : ℕ} (r : List ℕ) → Is b j → blank (b ∷ r) ≡ 0 → j ≡ 0 → item_at (b ∷ r) ≡ lexeme 65 (size (b ∷ r))
-    go r (classes.name n) w e = absurd (omega arith)
-    go r (classes.number n m) w e = absurd (omega arith)
-    go r (classes.blank x) w e = absurd (omega arith)
-    go r classes.quote w e = absurd (omega arith)
-    go r classes.hash w e = absurd (omega arith)
-    go r classes.minus w e = absurd (omega arith)
-    go r classes.dot w e = absurd (omega arith)
     go r (classes.punctuator s) w e = let c = punctuator_code s in absurd (omega arith)
     go {b} r (classes.other n d k q h m p z) w e =
         item_complete (error (unexpected b r (rw (d, m, p, q)) (no_rule (b ∷ r) (rw (d, m, n, q, h, p, span_stop blank (b ∷ r) w) (agree b z)))))
+    go r _ w e = absurd (omega arith)
 
 -- a run in what follows the first byte, which the code gets as a part
 pub tail_run : (c : Class) (t : List ℕ) (n : ℕ) → 0 < length t → n ≡ run c (take (length t - 1) (drop 1 t)) → n ≡ run c (drop 1 t)

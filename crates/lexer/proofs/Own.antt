@@ -7,7 +7,7 @@ use native.Mathlib.Omega.{arith}
 use lib.ListN.{drop, get_or}
 use Rattle.codes.specs.Errors as errors
 use Rattle.rules.specs.Rules.{Rule}
-use Rattle.rules.specs.Errors.{Fault, unexpected, second_digit, suffix, no_fraction, after_fraction, after_exponent, no_exponent, no_signed, minus, ended, two_dots, one_dot, lone_quote, unterminated, in_string, Stands, token, error}
+use Rattle.rules.specs.Errors.{Fault, lone_quote, unterminated, in_string, Stands, token, error}
 use Rattle.rules.specs.Tokens.{token_at}
 use Rattle.rules.specs.Items.{error_at, item_at}
 use Rattle.rules.proofs.Codes.{rule_code}
@@ -25,21 +25,10 @@ own_token t c {k} {n} r = let h = (rule_code r).1 in ap lexed_of (token_item r) 
 
 -- an error of a string, 11 to 18, stands where a quote does
 quote_at : {k n : ℕ} {t : List ℕ} → Fault k t n → errors.lone_quote ≤ k → get_or t 0 0 ≡ 34
-quote_at (unexpected b r s w) l = absurd (omega arith)
-quote_at (second_digit a r h d) l = absurd (omega arith)
-quote_at (suffix i r h n m) l = absurd (omega arith)
-quote_at (no_fraction i r h e d) l = absurd (omega arith)
-quote_at (after_fraction i f r h g p m) l = absurd (omega arith)
-quote_at (after_exponent i f e r h g k p) l = absurd (omega arith)
-quote_at (no_exponent i f r x h g m e d s) l = absurd (omega arith)
-quote_at (no_signed i f r x s h g m p e d) l = absurd (omega arith)
-quote_at (minus r d) l = absurd (omega arith)
-quote_at (ended a h) l = absurd (omega arith)
-quote_at (two_dots r p) l = absurd (omega arith)
-quote_at (one_dot r p) l = absurd (omega arith)
 quote_at lone_quote l = refl
 quote_at (unterminated r h c) l = refl
 quote_at (in_string r f fs c e) l = refl
+quote_at _ l = absurd (omega arith)
 
 -- so a string's fault is used up by that string's own item: where the cursor's item is one of these errors, a quote stands at the cursor
 pub own_fault : (t : List ℕ) (c : Cursor) (f n : ℕ) → (advanced_of t c).item ≡ Error f n → errors.lone_quote ≤ f → get_or (drop c.index t) 0 0 ≡ 34

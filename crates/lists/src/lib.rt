@@ -7,4 +7,4 @@ mod row;
 
 pub use events::list_events;
 pub use items::list_items;
-pub use row::{Listed, Style};
+pub use row::{Form, Style};

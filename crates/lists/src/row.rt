@@ -1,81 +1,79 @@
-// What both lists have: how rows are asked for, what a list gives back, and the parts of a row.
+// What both lists have: how rows are asked for, and the parts of a row.
 ghost use Rattle.std.specs.Prelude.{◌≡◌};
-ghost use Rattle.print.specs.Place.{Place};
 ghost use Rattle.lists.specs.Colours.{colour_of};
 
-use codes::item;
-use print::{put, put_hex2, put_hex7, put_number, put_shown, put_times};
+use codes::{Kind, kind};
+use print::{Colour, Medium, Output, put_shown, sum};
+use std::fmt;
+use std::fmt::Write;
 use tape::Entry;
 
-// Tape words instead of rows, and colour.
-#[derive(Clone, Copy)]
+// What a list has for each entry.
+#[derive(Clone, Copy, Debug, PartialEq, Eq)]
+pub enum Form {
+    Row,
+    // the tape's word
+    Word,
+}
+
+#[derive(Clone, Copy, Debug, PartialEq, Eq)]
 pub struct Style {
-    pub words: bool,
+    pub form: Form,
     pub colour: bool,
 }
 
-// The output's place after a list, and whether there was a refusal or an error item.
-#[derive(Clone, Copy)]
-pub struct Listed {
-    pub at: usize,
-    pub refused: bool,
-}
+// How many numbers a field of 28 bits holds.
+const FIELD: usize = 0x1000_0000;
 
 // A tape's word, as document 01 writes it.
-pub fn put_word(out: &mut [u8; 65536], at: usize, e: Entry) -> usize
-    requires { Place at }
-    ensures { Place result }
-{
-    let to = put_hex2(out, at, e.code as usize);
-    let to = put_hex7(out, to, e.start);
-    let to = put_hex7(out, to, e.size);
-    put(out, to, b'\n')
+pub fn put_word(out: &mut Output, e: Entry) -> fmt::Result {
+    let start = e.start % FIELD;
+    let size = e.size % FIELD;
+    write!(out, "{:02X}{start:07X}{size:07X}\n", e.code)
 }
 
+// Item codes, as patterns.
+const COMMENT: u8 = Kind::Comment as u8;
+
+const NAME: u8 = Kind::Name as u8;
+
+const STRING_VALUE: u8 = Kind::StringValue as u8;
+
+const INT: u8 = Kind::Int as u8;
+
+const FLOAT: u8 = Kind::Float as u8;
+
 // The colour of an item's kind.
-pub fn colour_of(code: u8) -> usize
+pub fn colour_of(code: u8) -> Colour
     ensures { result ≡ colour_of code }
 {
-    if code >= item::ERROR {
-        return 5;
+    match code {
+        kind::ERROR.. => Colour::Red,
+        ..=COMMENT => Colour::Dim,
+        NAME => Colour::Bold,
+        STRING_VALUE => Colour::Green,
+        INT | FLOAT => Colour::Cyan,
+        _ => Colour::Yellow,
     }
-    if code <= item::COMMENT {
-        return 0;
-    }
-    if code == item::NAME {
-        return 1;
-    }
-    if code == item::STRING_VALUE {
-        return 2;
-    }
-    if code == item::INT {
-        return 3;
-    }
-    if code == item::FLOAT {
-        return 3;
-    }
-    4
 }
 
 // Start and end.
-pub fn put_span(out: &mut [u8; 65536], at: usize, width: usize, start: usize, end: usize) -> usize
-    requires { Place at }
-    ensures { Place result }
-{
-    let to = put(out, at, b' ');
-    let to = put_number(out, to, start, width);
-    let to = put_times(out, to, b' ', 2);
-    put_number(out, to, end, width)
+pub fn put_span(out: &mut Output, width: usize, e: Entry) -> fmt::Result {
+    let start = e.start;
+    let end = sum(start, e.size);
+    write!(out, " {start:width$}  {end:width$}")
 }
 
 // What the entry covers, if anything, shortened.
-pub fn put_covered(out: &mut [u8; 65536], at: usize, text: &[u8], e: Entry) -> usize
-    requires { Place at }
-    ensures { Place result }
-{
+pub fn put_covered(out: &mut Output, text: &[u8], e: Entry) -> fmt::Result {
     if e.size == 0 {
-        return at;
+        return Ok(());
     }
-    let to = put_times(out, at, b' ', 2);
-    put_shown(out, to, false, reader::part(text, e.start, e.size), 40)
+    out.write_str("  ")?;
+    put_shown(
+        out,
+        Medium::Terminal,
+        reader::part(text, e.start, e.size),
+        40,
+    )
 }

@@ -1,85 +1,72 @@
-// Classes of bytes: `class` decides, and the rest of the lexer asks it.
+// Classes of bytes: they are decided here, and the rest of the lexer asks.
 #![tactic(auto)]
 
 ghost use Rattle.std.specs.Prelude.{◌≡◌};
+ghost use Rattle.codes.specs.KindNumbers.{number_of};
 ghost use Rattle.rules.specs.Classes.{digit, name_start, name_continue};
 ghost use Rattle.lookup.specs.Class.{punctuation_of, class_of};
 
-use codes::item;
+use codes::Kind;
 
-// Classes that are no token's code alone: a `-` begins an Int or a Float, and some bytes begin nothing.
-pub const MINUS: u8 = item::FLOAT;
-
-pub const OTHER: u8 = item::EOF;
-
-// The class of a byte: the code of the token that can begin with it, or one of the two above.
-pub fn class(b: u8) -> u8
-    ensures { result ≡ class_of b }
+// The class of a byte: the kind of the token that can begin with it, but that of a Float for `-`, with which an Int can begin too, and that of
+// Eof if none can.
+#[tactic(auto, unfolding(crate::specs::Class::class_of))]
+pub fn class(b: u8) -> Kind
+    ensures { number_of result ≡ class_of b }
 {
-    if base::within(b'a', b'z', b) {
-        return item::NAME;
-    }
-    if base::within(b'A', b'Z', b) {
-        return item::NAME;
-    }
-    if base::within(b'0', b'9', b) {
-        return item::INT;
-    }
     match b {
-        b'_' => item::NAME,
-        b'\t' => item::WHITESPACE,
-        b'\n' => item::WHITESPACE,
-        b'\r' => item::WHITESPACE,
-        b' ' => item::WHITESPACE,
-        b'"' => item::STRING_VALUE,
-        b'#' => item::COMMENT,
-        b'-' => MINUS,
-        b'.' => item::SPREAD,
-        _ => punctuation_kind(b),
+        _ if is_namestart(b) => Kind::Name,
+        _ if is_digit(b) => Kind::Int,
+        b'\t' | b'\n' | b'\r' | b' ' => Kind::Whitespace,
+        b'"' => Kind::StringValue,
+        b'#' => Kind::Comment,
+        b'-' => Kind::Float,
+        b'.' => Kind::Spread,
+        _ => punctuator(b),
     }
 }
 
-// The code of the punctuator that the byte is; `OTHER` if it is none.
-fn punctuation_kind(b: u8) -> u8
-    ensures { result ≡ punctuation_of b }
+// The kind of the punctuator that the byte is; that of Eof if it is none.
+#[tactic(auto, unfolding(crate::specs::Class::punctuation_of))]
+fn punctuator(b: u8) -> Kind
+    ensures { number_of result ≡ punctuation_of b }
 {
     match b {
-        b',' => item::COMMA,
-        b'!' => item::BANG,
-        b'$' => item::DOLLAR,
-        b'&' => item::AMP,
-        b'(' => item::L_PAREN,
-        b')' => item::R_PAREN,
-        b':' => item::COLON,
-        b'=' => item::EQ,
-        b'@' => item::AT,
-        b'[' => item::L_BRACKET,
-        b']' => item::R_BRACKET,
-        b'{' => item::L_CURLY,
-        b'|' => item::PIPE,
-        b'}' => item::R_CURLY,
-        _ => OTHER,
+        b',' => Kind::Comma,
+        b'!' => Kind::Bang,
+        b'$' => Kind::Dollar,
+        b'&' => Kind::Amp,
+        b'(' => Kind::LParen,
+        b')' => Kind::RParen,
+        b':' => Kind::Colon,
+        b'=' => Kind::Eq,
+        b'@' => Kind::At,
+        b'[' => Kind::LBracket,
+        b']' => Kind::RBracket,
+        b'{' => Kind::LCurly,
+        b'|' => Kind::Pipe,
+        b'}' => Kind::RCurly,
+        _ => Kind::Eof,
     }
 }
 
+#[tactic(auto, unfolding(rules::specs::Classes::name_start, rules::specs::Classes::letter))]
 pub fn is_namestart(b: u8) -> bool
     ensures { result ≡ name_start b }
 {
-    class(b) == item::NAME
+    matches!(b, b'a'..=b'z' | b'A'..=b'Z' | b'_')
 }
 
+#[tactic(auto, unfolding(rules::specs::Classes::digit))]
 pub fn is_digit(b: u8) -> bool
     ensures { result ≡ digit b }
 {
-    class(b) == item::INT
+    b.is_ascii_digit()
 }
 
+#[tactic(auto, unfolding(rules::specs::Classes::name_continue))]
 pub fn is_name_continue(b: u8) -> bool
     ensures { result ≡ name_continue b }
 {
-    let k = class(b);
-    if k == item::NAME {
-        return true;
-    }
-    k == item::INT
+    is_namestart(b) || is_digit(b)
 }

@@ -11,6 +11,9 @@ use lib.ListN.{length, drop, get_or, length-append}
 use lib.Seq.{append_snoc}
 use Rattle.base.specs.Text.{pick, from, All, Optional, missing, given}
 use Rattle.base.proofs.Tests.{or_true, from_true, from_below}
+use Rattle.codes.specs.declared.fault.Fault as declared
+use Rattle.codes.specs.declared.fault.Fault.TheVariants as fault
+use Rattle.codes.specs.FaultNumbers.{number_of}
 use Rattle.utf8.specs.Sequence.{width, size}
 use Rattle.rules.specs.Classes.{digit, nonzero, letter, name_start, exponent_mark, sign, after_number, point_or_name}
 use Rattle.rules.specs.Rules.{Digits, digits, IntegerPart, unsigned, FractionalPart, plain, signed, ExponentPart, mark, FloatValue, fraction, exponent, both, int, float}
@@ -80,7 +83,7 @@ data Form : NumberState → List ℕ → Type 0 where
 data Right (s : NumberState) (p : List ℕ) (b : ℕ) (r : List ℕ) : NumberStep → Type 0 where
   goes : {next : NumberState} → Form next (p ++ (b ∷ [])) → Right s p b r (Go next)
   ends : Stands (end_of s) (p ++ (b ∷ r)) (length p) → Right s p b r Done
-  fails : {k : ℕ} → Fault k (p ++ (b ∷ r)) (length p + size (b ∷ r)) → Right s p b r (Error k)
+  fails : {f : declared.Fault} → Fault (number_of f) (p ++ (b ∷ r)) (length p + size (b ∷ r)) → Right s p b r (Error f)
 
 -- by a test
 tested : {s : NumberState} {p : List ℕ} {b : ℕ} {r : List ℕ} {x y : NumberStep} (v : Bool) → (v ≡ true → Right s p b r x) → (v ≡ false → Right s p b r y)
@@ -133,7 +136,7 @@ digit_right : {s : NumberState} {p : List ℕ} (b : ℕ) (r : List ℕ) → Form
 unfolding digit_step
 digit_right b r minus_sign d =
     tested (eqb b 48) (λ z. goes (rw (eqb-true b 48 z) (leading_zero minus_nought))) (λ z. goes (negative (digit_nonzero b d z) tt))
-digit_right b r (leading_zero {a = a} h) d = fails {k = 2} (rw (digit_one b r d) (second_digit a (b ∷ r) h d))
+digit_right b r (leading_zero {a = a} h) d = fails {f = fault.SecondDigit} (rw (digit_one b r d) (second_digit a (b ∷ r) h d))
 digit_right b r (positive {a = a} n h) d = goes (positive n (all_more a b h d))
 digit_right b r (negative {a = a} n h) d = goes (negative n (all_more a b h d))
 digit_right b r (decimal_point i h) d = goes (led (append_snoc i 46 (b ∷ [])) (fractional i (46 ∷ b ∷ []) h (Rules.point (digits d tt))))

@@ -8,6 +8,8 @@ use lib.ListN.{length, take, drop, get_or, length-drop, drop_of_length-le}
 use lib.Seq.{drop-cons}
 use Rattle.base.specs.Item.{lexeme}
 use Rattle.base.proofs.Lists.{part_rest}
+use Rattle.codes.specs.declared.fault.Fault.{Fault}
+use Rattle.codes.specs.FaultNumbers.{number_of}
 use Rattle.utf8.specs.Sequence.{size}
 use Rattle.utf8.proofs.Characters.{size_le}
 use Rattle.numbers.specs.declared.NumberState.{NumberState}
@@ -38,9 +40,12 @@ module _ (t : List ℕ) (start s : NumberState) (i : ℕ) (p : Passed t start s 
   done l e = sym (rw e at (next_byte l))
 
   -- the text ends
-  pub ended : length t ≤ i → lexeme (end_of s) i ≡ scan_from start 1 (drop 1 t)
+  pub ended : length t ≤ i → lexeme (end_of s) (length t) ≡ scan_from start 1 (drop 1 t)
   unfolding scan_from
-  ended l = sym (p.same ∙ rw (drop_of_length-le t l))
+  ended l =
+      let f = p.fits in
+      let whole : length t ≡ i = omega arith in
+      rw whole (sym (p.same ∙ rw (drop_of_length-le t l)))
 
   -- an error, through the character at i, which has n bytes
   module _ (n : ℕ) (c : n ≡ size (take (length t - i) (drop i t))) where
@@ -53,5 +58,5 @@ module _ (t : List ℕ) (start s : NumberState) (i : ℕ) (p : Passed t start s 
     error_fits = let l = size_le (drop i t) in let f = p.fits in let e = character in omega (arith, length-drop i t)
 
     -- and it is the answer
-    pub failed : (k : ℕ) → i < length t → step_of s (get_or t i 0) ≡ Error k → lexeme (64 + k) (i + n) ≡ scan_from start 1 (drop 1 t)
-    failed k l e = rw character (sym (rw e at (next_byte l)))
+    pub failed : (f : Fault) → i < length t → step_of s (get_or t i 0) ≡ Error f → lexeme (64 + number_of f) (i + n) ≡ scan_from start 1 (drop 1 t)
+    failed f l e = rw character (sym (rw e at (next_byte l)))

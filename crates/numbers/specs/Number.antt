@@ -5,6 +5,8 @@ use Rattle.base.specs.Text.{pick}
 use Rattle.base.specs.Item.{Lexeme, lexeme}
 use Rattle.codes.specs.Errors as errors
 use Rattle.codes.specs.ItemCodes as codes
+use Rattle.codes.specs.FaultNumbers.{number_of}
+use Rattle.codes.specs.declared.fault.Fault.TheVariants as fault
 use Rattle.utf8.specs.Sequence as utf8
 use Rattle.rules.specs.Classes.{digit, name_start, exponent_mark}
 use Rattle.numbers.specs.declared.NumberState.{NumberState}
@@ -28,16 +30,16 @@ unfoldable pub after_integer : ℕ → NumberStep
 after_integer b =
     pick (eqb b 46) (Go DecimalPoint)
     (pick (exponent_mark b) (Go ExponentIndicator)
-    (pick (name_start b) (Error errors.integer_suffix) Done))
+    (pick (name_start b) (Error fault.IntegerSuffix) Done))
 
 -- after a fraction or an exponent, of which the byte does not continue the digits
 unfoldable pub after_float : ℕ → NumberStep
-after_float b = pick (eqb b 46) (Error errors.float_suffix) (pick (name_start b) (Error errors.float_suffix) Done)
+after_float b = pick (eqb b 46) (Error fault.FloatSuffix) (pick (name_start b) (Error fault.FloatSuffix) Done)
 
 -- what a digit does
 unfoldable pub digit_step : NumberState → ℕ → NumberStep
 digit_step MinusSign b = pick (eqb b 48) (Go LeadingZero) (Go IntegerPart)
-digit_step LeadingZero b = Error errors.second_digit
+digit_step LeadingZero b = Error fault.SecondDigit
 digit_step IntegerPart b = Go IntegerPart
 digit_step DecimalPoint b = Go FractionalPart
 digit_step FractionalPart b = Go FractionalPart
@@ -47,13 +49,13 @@ digit_step ExponentDigit b = Go ExponentDigit
 
 -- what any other byte does
 unfoldable pub other_step : NumberState → ℕ → NumberStep
-other_step MinusSign b = Error errors.minus_without_digit
+other_step MinusSign b = Error fault.MinusWithoutDigit
 other_step LeadingZero b = after_integer b
 other_step IntegerPart b = after_integer b
-other_step DecimalPoint b = Error errors.no_fraction_digit
+other_step DecimalPoint b = Error fault.NoFractionDigit
 other_step FractionalPart b = pick (exponent_mark b) (Go ExponentIndicator) (after_float b)
-other_step ExponentIndicator b = pick (eqb b 43) (Go ExponentSign) (pick (eqb b 45) (Go ExponentSign) (Error errors.no_exponent))
-other_step ExponentSign b = Error errors.no_digit_after_sign
+other_step ExponentIndicator b = pick (eqb b 43) (Go ExponentSign) (pick (eqb b 45) (Go ExponentSign) (Error fault.NoExponent))
+other_step ExponentSign b = Error fault.NoDigitAfterSign
 other_step ExponentDigit b = after_float b
 
 unfoldable pub step_of : NumberState → ℕ → NumberStep
@@ -63,7 +65,7 @@ step_of s b = pick (digit b) (digit_step s b) (other_step s b)
 abbrev pub scan_by : NumberStep → NumberState → (n : ℕ) → List ℕ → (NumberState → Lexeme) → Lexeme
 scan_by (Go next) s n r k = k next
 scan_by Done s n r k = lexeme (end_of s) n
-scan_by (Error fault) s n r k = lexeme (codes.error fault) (n + utf8.size r)
+scan_by (Error f) s n r k = lexeme (codes.error (number_of f)) (n + utf8.size r)
 
 -- the item of a number of which n bytes led to the state s, and what follows them
 unfoldable pub scan_from : NumberState → (n : ℕ) → List ℕ → Lexeme

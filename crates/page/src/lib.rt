@@ -5,428 +5,264 @@
 ghost use Rattle.std.specs.Prelude.{◌≡◌};
 ghost use Rattle.base.specs.Text.{from};
 ghost use Rattle.codes.specs.Refusals.{depth_limit, item_tape_full};
-ghost use Rattle.print.specs.Place.{Place};
 
-use codes::{item, node, refusal};
+use codes::{Fault, Kind, Refusal, kind, node, refusal};
 use print::{
-    Spot, entry_at, first_error, forward, put_all, put_error, put_error_item, put_form,
-    put_kind_name, put_refused, put_shown, sum,
+    ErrorCode, Medium, Output, Refused, Spot, entry_at, first_error, forward, put_error_item,
+    put_shown, sum,
 };
 use reader::Answer;
 use std::env::Env;
+use std::fmt;
+use std::fmt::Write;
+use std::ops::RangeInclusive;
 use tape::Entry;
 
 // The descriptor on which the head is lent.
 const HEAD: i32 = 5;
-// The last code of an event that closes a node.
+// The last code of an event that opens a node, and of one that closes one.
+const LAST_OPENING: u8 = node::CLOSES - 1;
+
 const LAST_CLOSING: u8 = node::TOKEN - 1;
 // The last code that an item can have.
-const LAST: u8 = item::ERROR + codes::error::BAD_BRACED_ESCAPE;
-
-// The output's place, and the next event.
-#[derive(Clone, Copy)]
-struct Mark {
-    at: usize,
-    event: usize,
-}
+const LAST: u8 = kind::ERROR + Fault::BadBracedEscape as u8;
 
 // Did the reader stop before the end of the text?
 pub fn is_cut(number: usize) -> bool
     ensures { result ≡ from depth_limit item_tape_full number }
 {
-    if number < refusal::DEPTH_LIMIT {
-        return false;
+    (Refusal::DepthLimit as usize..=Refusal::ItemTapeFull as usize).contains(&number)
+}
+
+// The kind of an item, by its code, with no sign that means something in markup.
+#[derive(Clone, Copy)]
+struct Label(u8);
+
+impl fmt::Display for Label {
+    fn fmt<W: fmt::Write>(&self, f: &mut fmt::Formatter<W>) -> fmt::Result {
+        if let Some(number) = self.0.checked_sub(kind::ERROR) {
+            return write!(f, "error {number}");
+        }
+        match Kind::try_from(self.0).unwrap_or(Kind::Float) {
+            Kind::Amp => f.write_str("&amp;"),
+            kind => write!(f, "{kind}"),
+        }
     }
-    number <= refusal::ITEM_TAPE_FULL
+}
+
+// The tag of an event that opens or closes a node.
+#[derive(Clone, Copy)]
+struct Tag(u8);
+
+impl fmt::Display for Tag {
+    fn fmt<W: fmt::Write>(&self, f: &mut fmt::Formatter<W>) -> fmt::Result {
+        let code = self.0;
+        if code < node::CLOSES {
+            write!(f, "<span class=\"n{code}\">")
+        } else {
+            f.write_str("</span>")
+        }
+    }
 }
 
 // The name that the text goes by, escaped.
-fn put_name<R: Env>(rt: &R, out: &mut [u8; 65536], at: usize) -> usize
-    requires { Place at }
-    ensures { Place result }
-{
+fn put_name<R: Env>(rt: &R, out: &mut Output) -> fmt::Result {
     let mut name = io::buffer();
-    match rt.arg(5, &mut name) {
-        Ok(n) => put_shown(out, at, true, &name[..n], 4096),
-        Err(_) => put_shown(out, at, true, &name[..0], 4096),
-    }
+    let n = rt.arg(5, &mut name).unwrap_or(0);
+    put_shown(out, Medium::Page, &name[..n], 4096)
 }
 
-// The next 4,096 bytes of the head, or what is left of it. `event` is how many they are.
-fn put_some_head(out: &mut [u8; 65536], at: usize) -> Mark
-    requires { Place at }
-    ensures { Place result.at }
-{
+// The head to its end, 4,096 bytes at a time: at most a thousand times that, as a proved loop has to end.
+fn put_head(out: &mut Output) -> fmt::Result {
     let mut buffer = io::buffer();
-    let n = io::read_full(HEAD, &mut buffer);
-    Mark {
-        at: put_all(out, at, &buffer[..n]),
-        event: n,
-    }
-}
-
-// The head to its end: at most a thousand times that, as a proved loop has to end.
-fn put_head(out: &mut [u8; 65536], at: usize) -> usize
-    requires { Place at }
-    ensures { Place result }
-{
-    let mut to = at;
-    let mut turns: u32 = 1000;
-    while turns > 0 {
-        let mark = put_some_head(out, to);
-        to = mark.at;
-        if mark.event == 0 {
-            return to;
+    for _ in 0..1000 {
+        let n = io::read_full(HEAD, &mut buffer);
+        if n == 0 {
+            break;
         }
-        turns -= 1;
+        out.put(&buffer[..n])?;
     }
-    to
+    Ok(())
 }
 
-// How many of the tape's first `count` items have a code from low to high.
-fn count_codes(tape: &[u8], count: usize, low: u8, high: u8) -> usize {
-    let mut n = 0;
-    let mut i = 0;
-    while i < count {
-        let e = entry_at(tape, i);
-        if base::within(low, high, e.code) {
-            n = sum(n, 1);
-        }
-        i += 1;
-    }
-    n
-}
-
-fn put_header<R: Env>(
-    rt: &R,
-    out: &mut [u8; 65536],
-    at: usize,
-    text: &[u8],
-    items: &[u8],
-    count: usize,
-) -> usize
-    requires { Place at }
-    ensures { Place result }
-{
-    let to = put_all(out, at, b"<title>");
-    let to = put_name(rt, out, to);
-    let to = put_all(out, to, b"</title>\n</head>\n<body>\n<header>\n<h1>");
-    let to = put_name(rt, out, to);
-    let errors = count_codes(items, count, item::ERROR, 255);
-    put_form(
+fn put_item(out: &mut Output, text: &[u8], e: Entry, index: usize) -> fmt::Result {
+    put_opening(out, e.code, index)?;
+    put_title(out, e)?;
+    out.write_str("\">")?;
+    put_shown(
         out,
-        to,
-        false,
-        b"</h1>\n<p>Bytes: %. Items: %. Error items: %.</p>\n</header>\n",
-        [text.len(), count, errors, 0, 0],
-    )
-}
-
-// One kind of the legend, if the text has it.
-fn put_legend_kind(out: &mut [u8; 65536], at: usize, items: &[u8], count: usize, code: u8) -> usize
-    requires { Place at }
-    ensures { Place result }
-{
-    let n = count_codes(items, count, code, code);
-    if n == 0 {
-        return at;
-    }
-    let to = put_form(
-        out,
-        at,
-        false,
-        b"<li><b class=\"k%\">",
-        [code as usize, 0, 0, 0, 0],
-    );
-    let to = put_kind_name(out, to, code);
-    put_form(out, to, false, b"</b> %</li>\n", [n, 0, 0, 0, 0])
-}
-
-// The kinds that the text has, and how many items of each.
-fn put_legend(out: &mut [u8; 65536], at: usize, items: &[u8], count: usize) -> usize
-    requires { Place at }
-    ensures { Place result }
-{
-    let mut to = put_all(out, at, b"<ul class=\"legend\">\n");
-    let mut code = item::WHITESPACE;
-    while code <= LAST {
-        to = put_legend_kind(out, to, items, count, code);
-        code += 1;
-    }
-    put_all(out, to, b"</ul>\n")
-}
-
-// An error item's entry in the list of errors: it leads to the item.
-#[derive(Clone, Copy)]
-struct Listed {
-    at: usize,
-    spot: Spot,
-}
-
-fn put_error_entry(
-    out: &mut [u8; 65536],
-    listed: Listed,
-    text: &[u8],
-    e: Entry,
-    index: usize,
-) -> Listed
-    requires { Place listed.at }
-    ensures { Place result.at }
-{
-    let code = e.code;
-    if code < item::ERROR {
-        return listed;
-    }
-    let spot = forward(text, listed.spot, e.start);
-    let to = put_form(
-        out,
-        listed.at,
-        false,
-        b"<li><a href=\"#i%\">",
-        [index, 0, 0, 0, 0],
-    );
-    let to = put_error_item(
-        out,
-        to,
-        false,
-        code - item::ERROR,
-        spot,
-        sum(e.start, e.size),
-    );
-    let at = put_all(out, to, b"</a></li>\n");
-    Listed { at, spot }
-}
-
-// The error items, if there are any.
-fn put_errors(out: &mut [u8; 65536], at: usize, text: &[u8], items: &[u8], count: usize) -> usize
-    requires { Place at }
-    ensures { Place result }
-{
-    if first_error(items, count) == codes::error::NONE {
-        return at;
-    }
-    let start = put_all(out, at, b"<ol class=\"errors\">\n");
-    let mut listed = Listed {
-        at: start,
-        spot: Spot::new(),
-    };
-    let mut i = 0;
-    while i < count {
-        listed = put_error_entry(out, listed, text, entry_at(items, i), i);
-        i += 1;
-    }
-    put_all(out, listed.at, b"</ol>\n")
-}
-
-// What a span says of its item when the pointer rests on it.
-fn put_title(out: &mut [u8; 65536], at: usize, e: Entry) -> usize
-    requires { Place at }
-    ensures { Place result }
-{
-    let to = put_kind_name(out, at, e.code);
-    let to = put_form(
-        out,
-        to,
-        false,
-        b", bytes % to %",
-        [e.start, sum(e.start, e.size), 0, 0, 0],
-    );
-    let code = e.code;
-    if code < item::ERROR {
-        return to;
-    }
-    let to = put_all(out, to, b": ");
-    put_error(out, to, code - item::ERROR)
+        Medium::Page,
+        reader::part(text, e.start, e.size),
+        refusal::LONGEST,
+    )?;
+    out.write_str("</span>")
 }
 
 // The start of an item's span, up to its title. An error item can be led to.
-fn put_opening(out: &mut [u8; 65536], at: usize, code: u8, index: usize) -> usize
-    requires { Place at }
-    ensures { Place result }
-{
-    if code < item::ERROR {
-        return put_form(
-            out,
-            at,
-            false,
-            b"<span class=\"k%\" title=\"",
-            [code as usize, 0, 0, 0, 0],
-        );
+fn put_opening(out: &mut Output, code: u8, index: usize) -> fmt::Result {
+    if code < kind::ERROR {
+        write!(out, "<span class=\"k{code}\" title=\"")
+    } else {
+        write!(out, "<span id=\"i{index}\" class=\"e\" title=\"")
     }
-    put_form(
-        out,
-        at,
-        false,
-        b"<span id=\"i%\" class=\"e\" title=\"",
-        [index, 0, 0, 0, 0],
-    )
 }
 
-fn put_item(out: &mut [u8; 65536], at: usize, text: &[u8], e: Entry, index: usize) -> usize
-    requires { Place at }
-    ensures { Place result }
-{
-    let to = put_opening(out, at, e.code, index);
-    let to = put_title(out, to, e);
-    let to = put_all(out, to, b"\">");
-    let to = put_shown(
-        out,
-        to,
-        true,
-        reader::part(text, e.start, e.size),
-        refusal::LONGEST,
-    );
-    put_all(out, to, b"</span>")
+// What a span says of its item when the pointer rests on it.
+fn put_title(out: &mut Output, e: Entry) -> fmt::Result {
+    let end = sum(e.start, e.size);
+    write!(out, "{}, bytes {} to {end}", Label(e.code), e.start)?;
+    match e.code.checked_sub(kind::ERROR) {
+        Some(error) => write!(out, ": {}", ErrorCode(error)),
+        None => Ok(()),
+    }
 }
 
-// The nodes that open before a token.
-fn put_opened(out: &mut [u8; 65536], at: usize, events: &[u8], from: usize, count: usize) -> Mark
-    requires { Place at }
-    ensures { Place result.at }
-{
-    let mut to = at;
-    let mut i = from;
-    while i < count {
-        let e = entry_at(events, i);
-        let code = e.code;
-        if code >= node::CLOSES {
-            return Mark { at: to, event: i };
+// The events that the grammar gave, and which of them is next.
+#[derive(Drop)]
+struct Events<'a> {
+    tape: &'a [u8],
+    count: usize,
+    next: usize,
+}
+
+impl<'a> Events<'a> {
+    // The tags of the next events, as long as they have one of these codes.
+    fn put_tags(&mut self, out: &mut Output, codes: RangeInclusive<u8>) -> fmt::Result {
+        for i in self.next..self.count {
+            let code = entry_at(self.tape, i).code;
+            if !codes.contains(&code) {
+                break;
+            }
+            write!(out, "{}", Tag(code))?;
+            self.next = i + 1;
         }
-        to = put_form(
-            out,
-            to,
-            false,
-            b"<span class=\"n%\">",
-            [code as usize, 0, 0, 0, 0],
-        );
-        i += 1;
+        Ok(())
     }
-    Mark { at: to, event: i }
-}
-
-// The nodes that close after a token.
-fn put_closed(out: &mut [u8; 65536], at: usize, events: &[u8], from: usize, count: usize) -> Mark
-    requires { Place at }
-    ensures { Place result.at }
-{
-    let mut to = at;
-    let mut i = from;
-    while i < count {
-        let e = entry_at(events, i);
-        if !base::within(node::CLOSES, LAST_CLOSING, e.code) {
-            return Mark { at: to, event: i };
-        }
-        to = put_all(out, to, b"</span>");
-        i += 1;
-    }
-    Mark { at: to, event: i }
 }
 
 // Eof, and the items that the grammar passes over, stand in no event.
 fn is_passed(code: u8) -> bool {
-    if code <= item::COMMA {
-        return true;
-    }
-    code >= item::ERROR
+    code <= Kind::Comma as u8 || code >= kind::ERROR
 }
 
-fn put_nested(
-    out: &mut [u8; 65536],
-    mark: Mark,
-    text: &[u8],
-    e: Entry,
-    index: usize,
-    events: &[u8],
-    count: usize,
-) -> Mark
-    requires { Place mark.at }
-    ensures { Place result.at }
-{
-    if is_passed(e.code) {
-        return Mark {
-            at: put_item(out, mark.at, text, e, index),
-            event: mark.event,
+// A text and what the reader found in it.
+#[derive(Clone, Copy)]
+struct Page<'a> {
+    text: &'a [u8],
+    items: &'a [u8],
+    events: &'a [u8],
+    answer: Answer,
+}
+
+impl<'a> Page<'a> {
+    // How many items have one of these codes.
+    fn count(self, codes: RangeInclusive<u8>) -> usize {
+        (0..self.answer.items)
+            .filter(|i| codes.contains(&entry_at(self.items, *i).code))
+            .count()
+    }
+
+    fn put_header<R: Env>(self, rt: &R, out: &mut Output) -> fmt::Result {
+        out.write_str("<title>")?;
+        put_name(rt, out)?;
+        out.write_str("</title>\n</head>\n<body>\n<header>\n<h1>")?;
+        put_name(rt, out)?;
+        let bytes = self.text.len();
+        let items = self.answer.items;
+        let errors = self.count(kind::ERROR..=u8::MAX);
+        write!(
+            out,
+            "</h1>\n<p>Bytes: {bytes}. Items: {items}. Error items: {errors}.</p>\n</header>\n"
+        )
+    }
+
+    // The kinds that the text has, and how many items of each.
+    fn put_legend(self, out: &mut Output) -> fmt::Result {
+        out.write_str("<ul class=\"legend\">\n")?;
+        for code in Kind::Whitespace as u8..=LAST {
+            let n = self.count(code..=code);
+            if n != 0 {
+                let label = Label(code);
+                write!(out, "<li><b class=\"k{code}\">{label}</b> {n}</li>\n")?;
+            }
+        }
+        out.write_str("</ul>\n")
+    }
+
+    // The error items, if there are any: each entry leads to its item.
+    fn put_errors(self, out: &mut Output) -> fmt::Result {
+        if first_error(self.items, self.answer.items).is_none() {
+            return Ok(());
+        }
+        out.write_str("<ol class=\"errors\">\n")?;
+        let mut spot = Spot::new();
+        for index in 0..self.answer.items {
+            let e = entry_at(self.items, index);
+            let Some(error) = e.code.checked_sub(kind::ERROR) else {
+                continue;
+            };
+            spot = forward(self.text, spot, e.start);
+            write!(out, "<li><a href=\"#i{index}\">")?;
+            put_error_item(out, false, error, spot, sum(e.start, e.size))?;
+            out.write_str("</a></li>\n")?;
+        }
+        out.write_str("</ol>\n")
+    }
+
+    // The text: its items one after the other, and the nodes around them, which open before a token and close after it.
+    fn put_text(self, out: &mut Output) -> fmt::Result {
+        let mut events = Events {
+            tape: self.events,
+            count: self.answer.events,
+            next: 0,
         };
+        for index in 0..self.answer.items {
+            let e = entry_at(self.items, index);
+            if is_passed(e.code) {
+                put_item(out, self.text, e, index)?;
+                continue;
+            }
+            events.put_tags(out, 0..=LAST_OPENING)?;
+            put_item(out, self.text, e, index)?;
+            events.next = sum(events.next, 1);
+            events.put_tags(out, node::CLOSES..=LAST_CLOSING)?;
+        }
+        Ok(())
     }
-    let opened = put_opened(out, mark.at, events, mark.event, count);
-    let at = put_item(out, opened.at, text, e, index);
-    put_closed(out, at, events, sum(opened.event, 1), count)
-}
 
-// The text: its items one after the other, and the nodes around them.
-fn put_text(
-    out: &mut [u8; 65536],
-    at: usize,
-    text: &[u8],
-    items: &[u8],
-    count: usize,
-    events: &[u8],
-    nodes: usize,
-) -> usize
-    requires { Place at }
-    ensures { Place result }
-{
-    let mut mark = Mark { at, event: 0 };
-    let mut i = 0;
-    while i < count {
-        mark = put_nested(out, mark, text, entry_at(items, i), i, events, nodes);
-        i += 1;
+    // Whether the text is a selection set, and if not, why.
+    fn put_verdict(self, out: &mut Output) -> fmt::Result {
+        let a = self.answer;
+        if a.number == refusal::DONE {
+            return out.write_str("<p>The text is a selection set.</p>\n");
+        }
+        out.write_str("<p class=\"refused\">Not read as a selection set: ")?;
+        let first = first_error(self.items, a.items);
+        Refused::new(self.text, a.number, a.place, first).put(out, false)?;
+        out.write_str("</p>\n")
     }
-    mark.at
-}
-
-// Whether the text is a selection set, and if not, why.
-fn put_verdict(out: &mut [u8; 65536], at: usize, text: &[u8], items: &[u8], a: Answer) -> usize
-    requires { Place at }
-    ensures { Place result }
-{
-    if a.number == refusal::DONE {
-        return put_all(out, at, b"<p>The text is a selection set.</p>\n");
-    }
-    let to = put_all(
-        out,
-        at,
-        b"<p class=\"refused\">Not read as a selection set: ",
-    );
-    let spot = forward(text, Spot::new(), a.place);
-    let error = first_error(items, a.items);
-    let to = put_refused(out, to, false, text, a.number, spot, error);
-    put_all(out, to, b"</p>\n")
-}
-
-fn put_body(
-    out: &mut [u8; 65536],
-    at: usize,
-    text: &[u8],
-    items: &[u8],
-    events: &[u8],
-    a: Answer,
-) -> usize
-    requires { Place at }
-    ensures { Place result }
-{
-    let to = put_legend(out, at, items, a.items);
-    let to = put_errors(out, to, text, items, a.items);
-    let to = put_all(out, to, b"<pre>");
-    let to = put_text(out, to, text, items, a.items, events, a.events);
-    put_all(out, to, b"</pre>\n")
 }
 
 pub fn put_page<R: Env>(
     rt: &R,
-    out: &mut [u8; 65536],
-    at: usize,
+    out: &mut Output,
     text: &[u8],
     items: &[u8],
     events: &[u8],
-    a: Answer,
-) -> usize
-    requires { Place at }
-    ensures { Place result }
-{
-    let to = put_head(out, at);
-    let to = put_header(rt, out, to, text, items, a.items);
-    let to = put_verdict(out, to, text, items, a);
-    let to = put_body(out, to, text, items, events, a);
-    put_all(out, to, b"</body>\n</html>\n")
+    answer: Answer,
+) -> fmt::Result {
+    let page = Page {
+        text,
+        items,
+        events,
+        answer,
+    };
+    put_head(out)?;
+    page.put_header(rt, out)?;
+    page.put_verdict(out)?;
+    page.put_legend(out)?;
+    page.put_errors(out)?;
+    out.write_str("<pre>")?;
+    page.put_text(out)?;
+    out.write_str("</pre>\n</body>\n</html>\n")
 }

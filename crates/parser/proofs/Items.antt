@@ -15,10 +15,14 @@ use Rattle.tape.specs.Entry.{entry_of}
 use Rattle.tiles.specs.Tiles.{tiles, eof}
 use Rattle.tiles.specs.Cover.{Covers}
 use Rattle.rules.specs.Items.{item_at, items}
-use Rattle.rules.proofs.Tiling.{tiling, eof_last, eof_position}
+use Rattle.tiles.proofs.Every.{Every}
+use Rattle.rules.proofs.Codes.{Code}
+use Rattle.rules.proofs.Tiling.{tiling, all_codes, eof_last, eof_position}
 use Rattle.syntax.specs.Words.{ignored, significant}
 use Rattle.syntax.specs.Words as words
-use Rattle.parser.specs.View.{Holds, rest, kind_of, Front}
+use Rattle.parser.specs.declared.token.Peeked.{Peeked}
+use Rattle.parser.specs.Kinds.{number_of}
+use Rattle.parser.specs.View.{Holds, rest, kind_of, IsCode, of_token, of_error, Front}
 
 -- items that cover the bytes up to e end by e
 covers_up : (a e : ℕ) (xs : List Item) → Covers a xs e → a ≤ e
@@ -53,6 +57,23 @@ item_inside t i h = go (nth t i h)
     go (before l) = covers_in 0 (length t) (tiles item_at 0 0 t) (eof 0) i (tiling t) l
     go (last e) = omega arith
 
+-- each item has a code of document 01
+pub item_is_code : (t : List ℕ) (i : ℕ) → i < length (items t) → IsCode (get_or (items t) i (eof 0)).code
+item_is_code t i h = go (nth t i h)
+  where
+    is : {k : ℕ} → Code k → IsCode k
+    is (Code.token l u) = of_token (omega arith)
+    is (Code.error l u) = of_error (omega arith) (omega arith)
+
+    every : (xs : List Item) (i : ℕ) → Every (λ x. Code x.code) xs → i < length xs → IsCode (get_or xs i (eof 0)).code
+    every [] i h l = absurd (not-suc-le-zero l)
+    every (x ∷ xs) zero h l = is h.0
+    every (x ∷ xs) (suc i) h l = every xs i h.1 (le_of_suc-le-suc l)
+
+    go : {x : Item} → Nth t i x → IsCode x.code
+    go (before l) = every _ i (all_codes t) l
+    go (last e) = of_token (omega arith)
+
 -- an item that is not Eof is not the last
 pub not_last : (t : List ℕ) (i : ℕ) → i < length (items t) → ((get_or (items t) i (eof 0)).code ≡ 0 → ⊥) → i + 1 < length (items t)
 not_last t i h n = go (nth t i h) n
@@ -74,6 +95,9 @@ module _ (t tape : List ℕ) (H : Holds t tape) (i : ℕ) (h : i < length (items
   pub entry_inside : e.start + e.size ≤ length t
   entry_inside = rw is_item (item_inside t i h)
 
+  pub is_code : IsCode e.code
+  is_code = rw is_item (item_is_code t i h)
+
   pub passed : ignored e.code ≡ true → (rest t i ≡ rest t (i + 1)) × (i + 1 < length (items t))
   unfolding ignored
   passed g =
@@ -81,16 +105,15 @@ module _ (t tape : List ℕ) (H : Holds t tape) (i : ℕ) (h : i < length (items
       (rest_here t i h ∙ rw g', not_last t i h (λ z. apart (ignored 0) (rw z at g') refl))
 
   -- the token at i
-  pub found : ignored e.code ≡ false → (at : ℕ) → at ≤ i → rest t at ≡ rest t i → (kind : ℕ) → kind ≡ kind_of t e.code e.start e.size
-      → Front t at (record { kind = kind; start = e.start; size = e.size; next = i + 1 })
+  pub found : ignored e.code ≡ false → (at : ℕ) → at ≤ i → rest t at ≡ rest t i → (p : Peeked) → number_of p.kind ≡ kind_of t e.code e.start e.size → p.start ≡ e.start → p.size ≡ e.size → p.next ≡ i + 1 → Front t at p
   unfolding words.token_of
-  found g at l s kind k =
+  found g at l s p k a b n =
       let g' : ignored (get_or (items t) i (eof 0)).code ≡ false = rw is_item at g in
       record {
-        first = s ∙ rest_here t i h ∙ rw (g', ← is_item, k);
+        first = s ∙ rest_here t i h ∙ rw (g', ← is_item, k, a, b, n);
         ahead = omega arith;
-        inside = λ n. not_last t i h (λ z.
+        inside = λ m. rw n (not_last t i h (λ z.
             let c : e.code ≡ 0 = ap (λ (x : Item). x.code) is_item ∙ z in
-            n (k ∙ rw c));
-        fits = entry_inside;
+            m (k ∙ rw c)));
+        fits = rw (a, b) entry_inside;
       }

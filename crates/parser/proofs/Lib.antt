@@ -1,6 +1,6 @@
 -- Laws of the view, and of readings.
-pub mod Events
+pub mod Writing
 pub mod View
 pub mod Items
 pub mod Moves
-pub mod Onward
+pub mod Codes

@@ -3,6 +3,7 @@ use Rattle.std.specs.Prelude.{ℕ, suc, ◌+◌, ◌*◌, ◌^◌, ◌≤◌, �
 use Rattle.base.specs.Text.{pick}
 use Rattle.base.specs.Item.{Item}
 use Rattle.tape.specs.Entry.{entry_size, room, entry, over_at}
+use Rattle.parser.specs.declared.events.Events.{Events}
 
 -- an event as entry number i, if there is room
 unfoldable pub store : List ℕ → ℕ → Item → List ℕ
@@ -22,3 +23,8 @@ pub record Puts (tape : List ℕ) (out : ℕ) (tape' : List ℕ) (next : ℕ) (e
   pub kept : length tape' ≡ length tape
   pub counted : out + length es ≤ most → next ≡ out + length es
   pub written : out + length es ≤ most → tape' ≡ stores tape out es
+
+-- from old to new the events es were written, to the same tape
+pub record Wrote (old new : Events) (es : List Item) : Type 0 where
+  pub same : new.tape.ghost_name ≡ old.tape.ghost_name
+  pub puts : Puts old.tape.now old.count new.tape.now new.count es

@@ -1,51 +1,55 @@
 -- What a function of the grammar promises, in terms of the reader's definition. Assumes nothing: these are definitions.
-use Rattle.std.specs.Prelude.{ℕ, ◌≤◌, ◌<◌, ◌≡◌, Bool, List, ◌++◌, length}
+use Rattle.std.specs.Prelude.{ℕ, ◌≤◌, ◌<◌, ◌≡◌, Bool, List, ◌++◌, length, Result, Ok, Err}
 use Rattle.base.specs.Item.{Item}
+use Rattle.codes.specs.RefusalNumbers.{number_of}
+use Rattle.codes.specs.declared.refusal.Refused.{Refused}
 use Rattle.rules.specs.Items.{items}
-use Rattle.syntax.specs.Machine.{Sym, refused, emits, run}
-use Rattle.parser.specs.declared.Step.{Step}
-use Rattle.parser.specs.declared.Step.TheVariants.{Done, Stop}
+use Rattle.syntax.specs.Machine.{Sym, Read, refused, emits, run}
+use Rattle.parser.specs.declared.token.Reached.{Reached}
+use Rattle.parser.specs.declared.events.Events.{Events}
 use Rattle.parser.specs.View.{rest}
-use Rattle.parser.specs.Events.{Puts}
+use Rattle.parser.specs.Events.{Wrote}
 
--- from item number `at` on, what `due` asks was read, up to item number `next`, where `left` is still due, whatever K lies below. It may be that
--- no token was needed. The last token ended at `end`
-pub record Went (c : Bool) (t : List ℕ) (due : List Sym) (l at : ℕ) (tape : List ℕ) (out : ℕ) (tape' : List ℕ) (left : List Sym) (next end out' : ℕ) : Type 0 where
+-- reading of t has come to inside the items, and its last token lies inside the text
+pub record Ready (t : List ℕ) (at : Reached) : Type 0 where
+  pub inside : at.next < length (items t)
+  pub fits : at.end ≤ length t
+
+-- what the reader's definition reads of t from there, with K due
+abbrev pub reads : (c : Bool) → List ℕ → List Sym → Reached → Read
+reads c t K at = run c K at.end (rest t at.next)
+
+-- what `due` asks was read, from one place to another, where `left` is still due, whatever K lies below. It may be that no token was needed
+pub record Went (c : Bool) (t : List ℕ) (due left : List Sym) (old new : Events) (from to : Reached) : Type 0 where
   pub events : List Item
-  pub puts : Puts tape out tape' out' events
-  pub onward : at ≤ next
-  pub inside : next < length (items t)
-  pub fits : end ≤ length t
-  pub reads : (K : List Sym) → run c (due ++ K) l (rest t at) ≡ emits events (run c (left ++ K) end (rest t next))
+  pub wrote : Wrote old new events
+  pub onward : from.next ≤ to.next
+  pub ready : Ready t to
+  pub same : (K : List Sym) → reads c t (due ++ K) from ≡ emits events (reads c t (left ++ K) to)
 
 -- and at least one token was read
-pub record Took (c : Bool) (t : List ℕ) (due : List Sym) (l at : ℕ) (tape : List ℕ) (out : ℕ) (tape' : List ℕ) (left : List Sym) (next end out' : ℕ) : Type 0 where
-  pub went : Went c t due l at tape out tape' left next end out'
-  pub ahead : at < next
+pub record Took (c : Bool) (t : List ℕ) (due left : List Sym) (old new : Events) (from to : Reached) : Type 0 where
+  pub went : Went c t due left old new from to
+  pub ahead : from.next < to.next
 
--- what a function answers: what was due was read, and `left` is still due; or it was refused
-pub data Outcome (c : Bool) (t : List ℕ) (due left : List Sym) (l at : ℕ) (tape : List ℕ) (out : ℕ) (tape' : List ℕ) : Step → Type 0 where
-  took : {next end out' : ℕ} → Took c t due l at tape out tape' left next end out' → Outcome c t due left l at tape out tape' (Done next end out')
-  stopped : {number place : ℕ} → length tape' ≡ length tape → ((K : List Sym) → run c (due ++ K) l (rest t at) ≡ refused number place)
-      → Outcome c t due left l at tape out tape' (Stop number place)
+-- the reader's definition refuses what stands there where `due` is due, whatever lies below. The event tape keeps its length
+pub record Stopped (c : Bool) (t : List ℕ) (due : List Sym) (old new : Events) (from : Reached) (by : Refused) : Type 0 where
+  pub same : new.tape.ghost_name ≡ old.tape.ghost_name
+  pub kept : length new.tape.now ≡ length old.tape.now
+  pub refuses : (K : List Sym) → reads c t (due ++ K) from ≡ refused (number_of by.refusal) by.place
 
--- ---- from step to step: what is read where one step stands, up to where another does
+-- what a function answers: what was due was read, at least a token, and `left` is still due; or it was refused
+pub data Outcome (c : Bool) (t : List ℕ) (due left : List Sym) (old new : Events) (from : Reached) : Result Reached Refused → Type 0 where
+  took : {to : Reached} → Took c t due left old new from to → Outcome c t due left old new from (Ok to)
+  stopped : {by : Refused} → Stopped c t due old new from by → Outcome c t due left old new from (Err by)
 
--- a step stands inside the items, and its last token inside the text
-abbrev pub Ready : List ℕ → Step → Type 0
-Ready t (Done next end out) = (next < length (items t)) × (end ≤ length t)
-Ready t (Stop number place) = Unit {0}
+-- the same, where it may be that no token was needed
+pub data Goes (c : Bool) (t : List ℕ) (due left : List Sym) (old new : Events) (from : Reached) : Result Reached Refused → Type 0 where
+  went : {to : Reached} → Went c t due left old new from to → Goes c t due left old new from (Ok to)
+  stopped : {by : Refused} → Stopped c t due old new from by → Goes c t due left old new from (Err by)
 
--- with `due` due where the first step stands, `left` is due where the second does; a refusal is handed on
-pub data Goes (c : Bool) (t : List ℕ) (due left : List Sym) (tape tape' : List ℕ) : Step → Step → Type 0 where
-  goes : {at l out next end out' : ℕ} → Went c t due l at tape out tape' left next end out' → Goes c t due left tape tape' (Done at l out) (Done next end out')
-  stops : {at l out number place : ℕ} → length tape' ≡ length tape → ((K : List Sym) → run c (due ++ K) l (rest t at) ≡ refused number place)
-      → Goes c t due left tape tape' (Done at l out) (Stop number place)
-  halted : {number place : ℕ} → length tape' ≡ length tape → Goes c t due left tape tape' (Stop number place) (Stop number place)
-
--- the events es were written, and then it goes from item number `at` on, where the token before ended at l
-pub record Begun (c : Bool) (t : List ℕ) (es : List Item) (due left : List Sym) (at l : ℕ) (tape : List ℕ) (out : ℕ) (tape' : List ℕ) (r : Step) : Type 0 where
-  pub between : List ℕ
-  pub written : ℕ
-  pub first : Puts tape out between written es
-  pub on : Goes c t due left between tape' (Done at l written) r
+-- the events es were written, and then it goes on from there
+pub record Begun (c : Bool) (t : List ℕ) (es : List Item) (due left : List Sym) (old new : Events) (at : Reached) (r : Result Reached Refused) : Type 0 where
+  pub between : Events
+  pub first : Wrote old between es
+  pub on : Goes c t due left between new at r

@@ -6,8 +6,10 @@ ghost use Rattle.grammar.specs.declared.Entry.TheVariants.{Value, Constant, Ty, 
 ghost use Rattle.grammar.specs.Answers.{grammar_answer, grammar_items, grammar_events};
 ghost use Rattle.paumelu.specs.Interface.{interface_answer, interface_tape};
 
-use codes::refusal;
+use codes::{Refusal, refusal};
 pub use reader::{Answer, part, read_items};
+
+// Stays: four functions of one shape, which README and docs/PROMISES.md name; `grammar::read` is the one that they share.
 
 // Reads a value that fills the text: its items to one tape, its events to the other.
 pub fn read_value(
@@ -97,7 +99,7 @@ pub fn paumelu_read(
         *place = 0;
         *items = 0;
         *events = 0;
-        return refusal::ENTRY_CODE;
+        return Refusal::EntryCode as u64;
     }
     let a = reader::read_items(text, limit as usize, tape);
     *place = a.place as u64;

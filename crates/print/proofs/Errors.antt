@@ -2,6 +2,7 @@
 use Prim.Native.Nat.{ℕ, suc, ◌+◌, ◌-◌, ◌<◌, ◌≤◌}
 use mathlib.Core.Path.{◌≡◌}
 use mathlib.Core.List.{List}
+use Rattle.std.specs.Prelude.{None, Some}
 use native.Mathlib.Omega.{arith}
 use native.Mathlib.Numerals.{add-one}
 use borrow.Author.Tests.{le-leb, lt-leb}
@@ -19,12 +20,12 @@ begin tape count =
     record { fits = omega arith; rest = rw m }
 
 module _ (tape : List ℕ) (count i : ℕ) (s : Searched tape count i) where
-  pub nowhere : count ≤ i → 0 ≡ first_error tape 0 count
+  pub nowhere : count ≤ i → None ≡ first_error tape 0 count
   unfolding first_error
   nowhere h = let m : count - i ≡ 0 = omega arith in rw (s.rest, m)
 
   module _ (x : Item) (e : x ≡ entry_at tape i) (h : i < count) where
-    pub found : 64 ≤ x.code → x.code - 64 ≡ first_error tape 0 count
+    pub found : 64 ≤ x.code → Some (x.code - 64) ≡ first_error tape 0 count
     unfolding first_error
     found k =
         let m : count - i ≡ suc (count - (i + 1)) = omega arith in

@@ -1,21 +1,20 @@
 -- Characters as they are shown. Assumes nothing: these are definitions.
-use Rattle.std.specs.Prelude.{ℕ, List, [], ◌∷◌, true, false, ◌||◌, leb, length, drop, get_or}
+use Rattle.std.specs.Prelude.{ℕ, List, [], ◌∷◌, false, ◌||◌, leb, length, drop, get_or, Option, None, Some, Result, Ok, Err}
 use Rattle.base.specs.Text.{pick, Class, from}
 use Rattle.utf8.specs.Answers.{character_of}
-use Rattle.utf8.specs.declared.Character.{Character}
-use Rattle.utf8.specs.declared.Character.TheVariants.{Scalar, Refused}
+use Rattle.codes.specs.declared.refusal.Refusal.{Refusal}
+use Rattle.utf8.specs.declared.Scalar.{Scalar}
 use Rattle.print.specs.declared.characters.Seen.{Seen}
+use Rattle.print.specs.declared.characters.Seen.TheVariants as seen
 
--- a character, whole; or the byte b, where none begins
-abbrev pub seen_of : (b : ℕ) → Character → Seen
-seen_of b (Scalar v n) = record { value = v; size = n; whole = true }
-seen_of b (Refused k) = record { value = b; size = 1; whole = false }
+-- a character; or the byte b, where none begins
+abbrev pub seen_of : (b : ℕ) → Result Scalar Refusal → Seen
+seen_of b (Ok c) = seen.Character c.value c.size
+seen_of b (Err r) = seen.Byte b
 
--- what stands at index i; nothing, of no size, past the end
-unfoldable pub seen_at : List ℕ → ℕ → Seen
-seen_at t i =
-    pick (leb (length t) i) (record { value = 0; size = 0; whole = false })
-    (seen_of (get_or t i 0) (character_of (drop i t)))
+-- what stands at index i; nothing past the end
+unfoldable pub seen_at : List ℕ → ℕ → Option Seen
+seen_at t i = pick (leb (length t) i) None (Some (seen_of (get_or t i 0) (character_of (drop i t))))
 
 -- is the number in one of the ranges?
 abbrev pub any_of : List (ℕ × ℕ) → Class

@@ -1,220 +1,169 @@
 // A text's characters, one after the other, and how each is shown. A byte where no well-formed sequence begins counts as a character of its own.
-ghost use Rattle.std.specs.Prelude.{◌≡◌, ◌||◌, ◌+◌, ◌≤◌, ◌<◌, min, max};
-ghost use Rattle.base.specs.Text.{from};
-ghost use Rattle.print.specs.Place.{Place};
+ghost use Rattle.std.specs.Prelude.{◌≡◌, ◌||◌, ◌+◌, ◌-◌, ◌≤◌, ◌<◌, min, max, length};
+ghost use Rattle.std.specs.Iterator.{at_most};
 ghost use Rattle.print.specs.Characters.{seen_at, hidden, broad};
 
-use crate::output::{put, put_all, put_form, put_hex, put_hex2};
+use crate::output::Output;
+use std::fmt;
+use std::fmt::Write;
 
-// A character's number and size; a byte that begins none has its own value, and `whole` is false.
-#[derive(Clone, Copy)]
-pub struct Seen {
-    pub value: u32,
-    pub size: usize,
-    pub whole: bool,
+// A character's number and how many bytes it has; or a byte that begins none.
+#[derive(Clone, Copy, Debug, PartialEq, Eq)]
+pub enum Seen {
+    Character { value: u32, size: usize },
+    Byte(u8),
 }
 
-fn wide(b: u8) -> u32
-    ensures { result ≡ b }
-{
-    b as u32
-}
-
-pub fn character_at(s: &[u8], i: usize) -> Seen
+// What stands at i, if anything.
+#[tactic(auto, using(crate::proofs::Decoded::decoded), unfolding(crate::specs::Characters::seen_at))]
+fn seen_at(s: &[u8], i: usize) -> Option<Seen>
     ensures { result ≡ seen_at s.now i }
 {
     if s.len() <= i {
-        return Seen {
-            value: 0,
-            size: 0,
-            whole: false,
-        };
+        return None;
     }
     match utf8::decode(&s[i..]) {
-        utf8::Character::Scalar { value, size } => Seen {
-            value,
-            size,
-            whole: true,
-        },
-        utf8::Character::Refused { number: _ } => Seen {
-            value: wide(s[i]),
-            size: 1,
-            whole: false,
-        },
+        Ok(utf8::Scalar { value, size }) => Some(Seen::Character { value, size }),
+        Err(_) => Some(Seen::Byte(s[i])),
+    }
+}
+
+// The characters of a text from an index on, each with its index.
+#[derive(Clone, Copy)]
+pub struct Characters<'a> {
+    text: &'a [u8],
+    index: usize,
+}
+
+impl<'a> Characters<'a> {
+    pub fn new(text: &'a [u8], from: usize) -> Self {
+        Characters { text, index: from }
+    }
+}
+
+impl<'a> Iterator for Characters<'a> {
+    type Item = (usize, Seen);
+
+    ghost remaining = { λ c. at_most (length c.text.now - c.index) };
+
+    fn next(&mut self) -> Option<(usize, Seen)> {
+        if self.text.len() <= self.index {
+            return None;
+        }
+        let at = self.index;
+        let seen = seen_at(self.text, at)?;
+        self.index = past(at, seen.size(), self.text.len());
+        Some((at, seen))
     }
 }
 
 // The index past a character of the given size: at least one byte on, and not past the end.
-pub fn past(i: usize, size: usize, end: usize) -> usize
+fn past(i: usize, size: usize, end: usize) -> usize
     requires { i < end }
     ensures { result ≡ min (i + max size 1) end }
 {
-    if size == 0 {
-        return i + 1;
-    }
-    if end - i < size {
-        return end;
-    }
-    i + size
-}
-
-// Is v one from low to high, or is that so of another range?
-fn or_between(other: bool, low: u32, high: u32, v: u32) -> bool
-    ensures { result ≡ from low high v || other }
-{
-    if v < low {
-        return other;
-    }
-    if v > high {
-        return other;
-    }
-    true
+    i + size.max(1).min(end - i)
 }
 
 // Control characters, and those that leave no mark or turn the direction of what follows.
 fn is_hidden(v: u32) -> bool
     ensures { result ≡ hidden v }
 {
-    let is = or_between(false, 0xE0000, 0xE0FFF, v);
-    let is = or_between(is, 0xFFF9, 0xFFFB, v);
-    let is = or_between(is, 0xFEFF, 0xFEFF, v);
-    let is = or_between(is, 0x2060, 0x206F, v);
-    let is = or_between(is, 0x2028, 0x202E, v);
-    let is = or_between(is, 0x200B, 0x200F, v);
-    let is = or_between(is, 0x61C, 0x61C, v);
-    let is = or_between(is, 0xAD, 0xAD, v);
-    let is = or_between(is, 0x7F, 0x9F, v);
-    or_between(is, 0x00, 0x1F, v)
+    matches!(
+        v,
+        0x00..=0x1F
+            | 0x7F..=0x9F
+            | 0xAD
+            | 0x61C
+            | 0x200B..=0x200F
+            | 0x2028..=0x202E
+            | 0x2060..=0x206F
+            | 0xFEFF
+            | 0xFFF9..=0xFFFB
+            | 0xE0000..=0xE0FFF
+    )
 }
 
-// The letter after the backslash for LF, CR and tab; 0 for any other.
-fn letter(v: u32) -> u8 {
-    if v == 10 {
-        return b'n';
+// The letter after the backslash for LF, CR and tab.
+fn letter(v: u32) -> Option<char> {
+    match v {
+        10 => Some('n'),
+        13 => Some('r'),
+        9 => Some('t'),
+        _ => None,
     }
-    if v == 13 {
-        return b'r';
-    }
-    if v == 9 {
-        return b't';
-    }
-    0
 }
 
-fn put_escape(out: &mut [u8; 65536], at: usize, v: u32) -> usize
-    requires { Place at }
-    ensures { Place result }
-{
-    let l = letter(v);
-    if l != 0 {
-        let to = put(out, at, b'\\');
-        return put(out, to, l);
+fn put_escape(out: &mut Output, v: u32) -> fmt::Result {
+    match letter(v) {
+        Some(l) => write!(out, "\\{l}"),
+        None => write!(out, "\\u{{{v:X}}}"),
     }
-    let to = put(out, at, b'\\');
-    let to = put(out, to, b'u');
-    let to = put(out, to, b'{');
-    let to = put_hex(out, to, v as usize);
-    put(out, to, b'}')
-}
-
-fn put_byte(out: &mut [u8; 65536], at: usize, v: u32) -> usize
-    requires { Place at }
-    ensures { Place result }
-{
-    let to = put(out, at, b'\\');
-    let to = put(out, to, b'x');
-    put_hex2(out, to, v as usize)
 }
 
 // The character at i of s, which is c: itself, or an escape.
-pub fn put_character(out: &mut [u8; 65536], at: usize, s: &[u8], i: usize, c: Seen) -> usize
-    requires { Place at }
-    ensures { Place result }
-{
-    if !c.whole {
-        return put_byte(out, at, c.value);
-    }
-    if is_hidden(c.value) {
-        return put_escape(out, at, c.value);
-    }
-    put_all(out, at, reader::part(s, i, c.size))
-}
-
-// `…`
-pub fn put_more(out: &mut [u8; 65536], at: usize) -> usize
-    requires { Place at }
-    ensures { Place result }
-{
-    let to = put(out, at, 0xE2);
-    let to = put(out, to, 0x80);
-    put(out, to, 0xA6)
-}
-
-// The characters that mean something in markup.
-fn is_markup(v: u32) -> bool {
-    match v {
-        34 | 38 | 39 | 60 | 62 => true,
-        _ => false,
+pub fn put_character(out: &mut Output, s: &[u8], i: usize, c: Seen) -> fmt::Result {
+    match c {
+        Seen::Byte(b) => write!(out, "\\x{b:02X}"),
+        Seen::Character { value, .. } if is_hidden(value) => put_escape(out, value),
+        Seen::Character { size, .. } => out.put(reader::part(s, i, size)),
     }
 }
 
-// Tab, LF and CR are laid out by the browser.
-fn is_blank(v: u32) -> bool {
-    match v {
-        9 | 10 | 13 => true,
-        _ => false,
+pub fn put_more(out: &mut Output) -> fmt::Result {
+    out.write_str("…")
+}
+
+// The character at i of s, which is c, as text of a page: nothing of it is markup, and tab, LF and CR are laid out by the browser.
+fn put_safe(out: &mut Output, s: &[u8], i: usize, c: Seen) -> fmt::Result {
+    match c {
+        Seen::Byte(_) => out.write_str("?"),
+        Seen::Character {
+            value: value @ (34 | 38 | 39 | 60 | 62),
+            ..
+        } => write!(out, "&#{value};"),
+        Seen::Character { value, .. } if is_hidden(value) && !matches!(value, 9 | 10 | 13) =>
+            put_escape(out, value),
+        Seen::Character { size, .. } => out.put(reader::part(s, i, size)),
     }
 }
 
-// The character at i of s, which is c, as text of a page: nothing of it is markup.
-fn put_safe(out: &mut [u8; 65536], at: usize, s: &[u8], i: usize, c: Seen) -> usize
-    requires { Place at }
-    ensures { Place result }
-{
-    let v = c.value;
-    if is_markup(v) {
-        return put_form(out, at, false, b"&#%;", [v as usize, 0, 0, 0, 0]);
-    }
-    if is_blank(v) {
-        return put_all(out, at, reader::part(s, i, c.size));
-    }
-    if !c.whole {
-        return put(out, at, b'?');
-    }
-    if is_hidden(v) {
-        return put_escape(out, at, v);
-    }
-    put_all(out, at, reader::part(s, i, c.size))
+// Where a text is shown.
+#[derive(Clone, Copy, Debug, PartialEq, Eq)]
+pub enum Medium {
+    Terminal,
+    Page,
 }
 
-fn put_either(out: &mut [u8; 65536], at: usize, page: bool, s: &[u8], i: usize, c: Seen) -> usize
-    requires { Place at }
-    ensures { Place result }
-{
-    if page {
-        return put_safe(out, at, s, i, c);
-    }
-    put_character(out, at, s, i, c)
-}
-
-// All of s, shown on a page or else in a terminal: no more than `most` characters, and `…` for the rest.
-pub fn put_shown(out: &mut [u8; 65536], at: usize, page: bool, s: &[u8], most: usize) -> usize
-    requires { Place at }
-    ensures { Place result }
-{
-    let mut to = at;
-    let mut i = 0;
-    let mut n = 0;
-    while i < s.len() {
+// All of s, as it is shown there: no more than `most` characters, and `…` for the rest.
+pub fn put_shown(out: &mut Output, medium: Medium, s: &[u8], most: usize) -> fmt::Result {
+    for (n, (i, c)) in Characters::new(s, 0).enumerate() {
         if n == most {
-            return put_more(out, to);
+            return put_more(out);
         }
-        let c = character_at(s, i);
-        to = put_either(out, to, page, s, i, c);
-        i = past(i, c.size, s.len());
-        n += 1;
+        match medium {
+            Medium::Terminal => put_character(out, s, i, c)?,
+            Medium::Page => put_safe(out, s, i, c)?,
+        }
     }
-    to
+    Ok(())
+}
+
+// Characters that take two columns of a terminal: East Asian letters and signs, and pictures.
+fn is_broad(v: u32) -> bool
+    ensures { result ≡ broad v }
+{
+    matches!(
+        v,
+        0x1100..=0x115F
+            | 0x2E80..=0xA4CF
+            | 0xAC00..=0xD7A3
+            | 0xF900..=0xFAFF
+            | 0xFE30..=0xFE6F
+            | 0xFF00..=0xFF60
+            | 0x1F300..=0x1FAFF
+            | 0x20000..=0x3FFFD
+    )
 }
 
 fn hex_digits(v: u32) -> usize {
@@ -222,39 +171,38 @@ fn hex_digits(v: u32) -> usize {
     io::hex(v as u64, 1, &mut text)
 }
 
-// Characters that take two columns of a terminal: East Asian letters and signs, and pictures.
-fn is_broad(v: u32) -> bool
-    ensures { result ≡ broad v }
-{
-    let is = or_between(false, 0x20000, 0x3FFFD, v);
-    let is = or_between(is, 0x1F300, 0x1FAFF, v);
-    let is = or_between(is, 0xFF00, 0xFF60, v);
-    let is = or_between(is, 0xFE30, 0xFE6F, v);
-    let is = or_between(is, 0xF900, 0xFAFF, v);
-    let is = or_between(is, 0xAC00, 0xD7A3, v);
-    let is = or_between(is, 0x2E80, 0xA4CF, v);
-    or_between(is, 0x1100, 0x115F, v)
-}
-
-// How many columns of a terminal the character takes as it is shown. Marks that stand on the letter before them take none.
-pub fn columns(c: Seen) -> usize
+// The columns of a character that is shown by an escape.
+fn escape_columns(v: u32) -> usize
     ensures { result ≤ 20 }
 {
-    if !c.whole {
-        return 4;
+    match letter(v) {
+        Some(_) => 2,
+        None => hex_digits(v).min(16) + 4,
     }
-    if is_hidden(c.value) {
-        if letter(c.value) != 0 {
-            return 2;
+}
+
+impl Seen {
+    // How many bytes of the text it takes.
+    fn size(self) -> usize {
+        match self {
+            Seen::Character { size, .. } => size,
+            Seen::Byte(_) => 1,
         }
-        let k = hex_digits(c.value);
-        if k < 16 {
-            return k + 4;
+    }
+
+    // How many columns of a terminal the character takes as it is shown. Marks that stand on the letter before them take none.
+    pub fn columns(self) -> usize
+        ensures { result ≤ 20 }
+    {
+        match self {
+            Seen::Byte(_) => 4,
+            Seen::Character { value, .. } if is_hidden(value) => escape_columns(value),
+            Seen::Character {
+                value: 0x300..=0x36F,
+                ..
+            } => 0,
+            Seen::Character { value, .. } if is_broad(value) => 2,
+            Seen::Character { .. } => 1,
         }
-        return 20;
     }
-    if or_between(false, 0x300, 0x36F, c.value) {
-        return 0;
-    }
-    if is_broad(c.value) { 2 } else { 1 }
 }

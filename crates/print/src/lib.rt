@@ -2,18 +2,17 @@
 #![tactic(auto)]
 
 mod characters;
+mod colour;
 mod entries;
 mod lines;
 mod names;
 mod output;
 mod report;
 
-pub use characters::put_shown;
+pub use characters::{Medium, put_shown};
+pub use colour::Colour;
 pub use entries::{entry_at, first_error};
 pub use lines::{Spot, forward, put_caret};
-pub use names::{put_error, put_event, put_kind, put_kind_name};
-pub use output::{
-    digits, flush, less, put, put_all, put_colour, put_form, put_hex2, put_hex7, put_if,
-    put_number, put_times, sum,
-};
-pub use report::{put_error_item, put_refused, put_report};
+pub use names::{ErrorCode, EventCode, ItemCode};
+pub use output::{Output, digits, less, sum};
+pub use report::{Refused, put_error_item};

@@ -1,12 +1,13 @@
 // Lines and columns, both from 1. LF, CR, and CR followed by LF each end one line, and that LF is on the CR's line. Columns count characters.
 ghost use Rattle.std.specs.Prelude.{◌≡◌, ◌+◌, ◌-◌, ◌^◌, min, max};
-ghost use Rattle.print.specs.Place.{Place};
 
-use crate::characters::{Seen, character_at, columns, past, put_character, put_more};
-use crate::output::{put, put_times, sum};
+use crate::characters::{Characters, Seen, put_character, put_more};
+use crate::output::{Output, sum};
+use std::fmt;
+use std::fmt::Write;
 
 // A byte's place as an editor counts it, and where its line starts.
-#[derive(Clone, Copy)]
+#[derive(Clone, Copy, Debug, PartialEq, Eq)]
 pub struct Spot {
     pub byte: usize,
     pub line: usize,
@@ -30,53 +31,40 @@ impl Spot {
 
 // Does the line end with the byte at i?
 fn ends_line(text: &[u8], i: usize) -> bool {
-    let b = base::byte_at(text, i);
-    if b == 10 {
-        return true;
+    match text.get(i) {
+        Some(b'\n') => true,
+        Some(b'\r') => text.get(i + 1) != Some(&b'\n'),
+        _ => false,
     }
-    if b != 13 {
-        return false;
-    }
-    if i == usize::MAX {
-        return true;
-    }
-    base::byte_at(text, i + 1) != 10
 }
 
-fn up(n: usize) -> usize
-    ensures { result ≡ min (n + 1) (2 ^ 64 - 1) }
-{
-    if n < usize::MAX { n + 1 } else { n }
+// Does a character begin with the byte at i, or is the byte one that begins none? The later bytes of a character do not.
+fn begins(text: &[u8], i: usize) -> bool {
+    !base::within(0x80, 0xBF, base::byte_at(text, i))
 }
 
 // One byte further on.
 fn step(text: &[u8], spot: Spot) -> Spot
     ensures { result.byte ≡ min (spot.byte + 1) (2 ^ 64 - 1) }
 {
-    let at = spot.byte;
-    let next = up(at);
-    if ends_line(text, at) {
+    let byte = sum(spot.byte, 1);
+    if ends_line(text, spot.byte) {
         return Spot {
-            byte: next,
-            line: up(spot.line),
+            byte,
+            line: sum(spot.line, 1),
             column: 1,
-            start: next,
+            start: byte,
         };
     }
-    // the later bytes of a character begin none
-    if base::within(0x80, 0xBF, base::byte_at(text, at)) {
-        return Spot {
-            byte: next,
-            line: spot.line,
-            column: spot.column,
-            start: spot.start,
-        };
-    }
+    let column = if begins(text, spot.byte) {
+        sum(spot.column, 1)
+    } else {
+        spot.column
+    };
     Spot {
-        byte: next,
-        line: spot.line,
-        column: up(spot.column),
-        start: spot.start,
+        byte,
+        column,
+        ..spot
     }
 }
 
@@ -85,122 +73,70 @@ pub fn forward(text: &[u8], from: Spot, to: usize) -> Spot
     ensures { result.byte ≡ max from.byte to }
 {
     let mut spot = from;
-    let mut i = from.byte;
-    while i < to {
+    for _ in from.byte..to {
         spot = step(text, spot);
-        i += 1;
     }
     spot
 }
 
-// The index of the character that is `count` characters before `at`, and not before `low`.
-fn back(text: &[u8], low: usize, at: usize, count: usize) -> usize {
-    let mut i = at;
-    let mut n = 0;
-    while low < i {
-        if n == count {
-            return i;
-        }
-        i -= 1;
-        if !base::within(0x80, 0xBF, base::byte_at(text, i)) {
-            n = up(n);
-        }
-    }
-    i
+// The index of the character that is 40 characters before `at`, and not before `low`.
+fn back(text: &[u8], low: usize, at: usize) -> usize {
+    (low..at)
+        .rev()
+        .filter(|i| begins(text, *i))
+        .nth(39)
+        .unwrap_or(low.min(at))
 }
 
 // A tab is shown as a space, so that the caret fits.
 fn flat(c: Seen) -> Seen {
-    if c.value == 9 {
-        return Seen {
-            value: 32,
-            size: c.size,
-            whole: c.whole,
-        };
+    match c {
+        Seen::Character { value: 9, size } => Seen::Character { value: 32, size },
+        c => c,
     }
-    c
 }
 
-fn put_flat(out: &mut [u8; 65536], at: usize, text: &[u8], i: usize, c: Seen) -> usize
-    requires { Place at }
-    ensures { Place result }
-{
-    if c.value == 9 {
-        return put(out, at, b' ');
+fn put_flat(out: &mut Output, text: &[u8], i: usize, c: Seen) -> fmt::Result {
+    match c {
+        Seen::Character { value: 9, .. } => out.write_str(" "),
+        c => put_character(out, text, i, c),
     }
-    put_character(out, at, text, i, c)
 }
 
-// Shows the text from `from` on to the line's end, at most `most` characters.
-fn put_line(out: &mut [u8; 65536], at: usize, text: &[u8], from: usize, most: usize) -> usize
-    requires { Place at }
-    ensures { Place result }
-{
-    let mut to = at;
-    let mut i = from;
-    let mut n = 0;
-    while i < text.len() {
-        let b = text[i];
-        if b == 10 {
-            return to;
+fn is_line_end(c: Seen) -> bool {
+    matches!(c, Seen::Character { value: 10 | 13, .. })
+}
+
+// Shows the text from `from` on to the line's end, at most 76 characters.
+fn put_line(out: &mut Output, text: &[u8], from: usize) -> fmt::Result {
+    for (n, (i, c)) in Characters::new(text, from).enumerate() {
+        if is_line_end(c) {
+            break;
         }
-        if b == 13 {
-            return to;
+        if n == 76 {
+            return put_more(out);
         }
-        if n == most {
-            return put_more(out, to);
-        }
-        let c = character_at(text, i);
-        to = put_flat(out, to, text, i, c);
-        i = past(i, c.size, text.len());
-        n += 1;
+        put_flat(out, text, i, c)?;
     }
-    to
+    Ok(())
 }
 
 // How many columns the text from `from` up to `to` takes as it is shown.
 fn columns_to(text: &[u8], from: usize, to: usize) -> usize {
-    let mut n = 0;
-    let mut i = from;
-    while i < text.len() {
-        if to <= i {
-            return n;
-        }
-        let c = character_at(text, i);
-        n = sum(n, columns(flat(c)));
-        i = past(i, c.size, text.len());
-    }
-    n
-}
-
-fn put_cut(out: &mut [u8; 65536], at: usize, cut: bool) -> usize
-    requires { Place at }
-    ensures { Place result }
-{
-    if cut {
-        return put_more(out, at);
-    }
-    at
+    Characters::new(text, from)
+        .take_while(|(i, _)| *i < to)
+        .fold(0, |n, (_, c)| sum(n, flat(c).columns()))
 }
 
 // The spot's line, or what of it is near the spot, and a caret under the spot.
-pub fn put_caret(out: &mut [u8; 65536], at: usize, text: &[u8], spot: Spot) -> usize
-    requires { Place at }
-    ensures { Place result }
-{
-    let from = back(text, spot.start, spot.byte, 40);
+pub fn put_caret(out: &mut Output, text: &[u8], spot: Spot) -> fmt::Result {
+    let from = back(text, spot.start, spot.byte);
     let cut = spot.start < from;
-    let to = put_times(out, at, b' ', 4);
-    let to = put_cut(out, to, cut);
-    let to = put_line(out, to, text, from, 76);
-    let to = put(out, to, b'\n');
-    let indent = if cut { 5 } else { 4 };
-    let to = put_times(
-        out,
-        to,
-        b' ',
-        sum(indent, columns_to(text, from, spot.byte)),
-    );
-    let to = put(out, to, b'^');
-    put(out, to, b'\n')
+    write!(out, "{:4}", "")?;
+    if cut {
+        put_more(out)?;
+    }
+    put_line(out, text, from)?;
+    let indent = sum(if cut { 5 } else { 4 }, columns_to(text, from, spot.byte));
+    write!(out, "\n{:indent$}^\n", "")
 }

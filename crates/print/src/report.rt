@@ -2,109 +2,104 @@
 ghost use Rattle.std.specs.Prelude.{◌≡◌};
 ghost use Rattle.base.specs.Text.{from};
 ghost use Rattle.codes.specs.Refusals.{not_utf8, no_sentence};
-ghost use Rattle.print.specs.Place.{Place};
 
+use crate::colour::Colour;
 use crate::lines::{Spot, forward, put_caret};
-use crate::names::{put_error, put_refusal};
-use crate::output::{put, put_form};
-use codes::refusal;
+use crate::names::ErrorCode;
+use crate::output::Output;
+use codes::{Refusal, fault, refusal};
+use std::fmt;
+use std::fmt::Write;
 
 // An error item that starts at the spot, without its line.
 pub fn put_error_item(
-    out: &mut [u8; 65536],
-    at: usize,
+    out: &mut Output,
     colour: bool,
     error: u8,
     spot: Spot,
     end: usize,
-) -> usize
-    requires { Place at }
-    ensures { Place result }
-{
-    let numbers = [error as usize, spot.byte, end, spot.line, spot.column];
-    let to = put_form(
+) -> fmt::Result {
+    let red = Colour::Red.if_wanted(colour);
+    let plain = Colour::Plain.if_wanted(colour);
+    let words = ErrorCode(error);
+    write!(
         out,
-        at,
-        colour,
-        b"{error %} at bytes % to %, line %, column %: ",
-        numbers,
-    );
-    put_error(out, to, error)
+        "{red}error {error}{plain} at bytes {} to {end}, line {}, column {}: {words}",
+        spot.byte, spot.line, spot.column
+    )
+}
+
+// A refusal of a text, by its number: where, and the error of the first error item, if there is one.
+#[derive(Clone, Copy, Debug)]
+pub struct Refused<'a> {
+    pub text: &'a [u8],
+    pub number: usize,
+    pub spot: Spot,
+    pub first: Option<u8>,
 }
 
 // Refusals 1, 2 and 10 have no place in the text.
 fn has_place(number: usize) -> bool
     ensures { result ≡ from not_utf8 no_sentence number }
 {
-    if number < refusal::NOT_UTF8 {
-        return false;
-    }
-    number <= refusal::NO_SENTENCE
+    (Refusal::NotUtf8 as usize..=Refusal::NoSentence as usize).contains(&number)
 }
 
-fn put_words(out: &mut [u8; 65536], at: usize, number: usize, error: u8, ends: bool) -> usize
-    requires { Place at }
-    ensures { Place result }
-{
-    if number == refusal::ERROR_ITEM {
-        let to = put_form(
-            out,
-            at,
-            false,
-            b"error item %, ",
-            [error as usize, 0, 0, 0, 0],
-        );
-        return put_error(out, to, error);
+// A refusal in words. The end of the text has words of its own for number 9.
+impl<'a> fmt::Display for Refused<'a> {
+    fn fmt<W: fmt::Write>(&self, f: &mut fmt::Formatter<W>) -> fmt::Result {
+        match Refusal::try_from(self.number) {
+            Ok(Refusal::ErrorItem) => {
+                let error = self.first.unwrap_or(fault::NONE);
+                write!(f, "error item {error}, {}", ErrorCode(error))
+            }
+            Ok(Refusal::NoSentence) if self.spot.byte == self.text.len() => {
+                f.write_str("no sentence can end here")
+            }
+            Ok(refusal) => write!(f, "{refusal}"),
+            Err(_) if self.number == refusal::DONE => f.write_str("no refusal"),
+            Err(_) => f.write_str("no sentence can end here"),
+        }
     }
-    put_refusal(out, at, number, ends)
 }
 
-// A refusal without its line. The error is that of the first error item, if there is one.
-pub fn put_refused(
-    out: &mut [u8; 65536],
-    at: usize,
-    colour: bool,
-    text: &[u8],
-    number: usize,
-    spot: Spot,
-    error: u8,
-) -> usize
-    requires { Place at }
-    ensures { Place result }
-{
-    if !has_place(number) {
-        let to = put_form(out, at, colour, b"{refusal %}: ", [number, 0, 0, 0, 0]);
-        return put_words(out, to, number, error, false);
+impl<'a> Refused<'a> {
+    pub fn new(text: &'a [u8], number: usize, place: usize, first: Option<u8>) -> Self
+        ensures number { result.number ≡ number }
+        ensures place { result.spot.byte ≡ place }
+        ensures first { result.first ≡ first }
+    {
+        Refused {
+            text,
+            number,
+            spot: forward(text, Spot::new(), place),
+            first,
+        }
     }
-    let numbers = [number, spot.byte, spot.line, spot.column, 0];
-    let to = put_form(
-        out,
-        at,
-        colour,
-        b"{refusal %} at byte %, line %, column %: ",
-        numbers,
-    );
-    put_words(out, to, number, error, spot.byte == text.len())
-}
 
-// A refusal with its line.
-pub fn put_report(
-    out: &mut [u8; 65536],
-    at: usize,
-    colour: bool,
-    text: &[u8],
-    number: usize,
-    place: usize,
-    error: u8,
-) -> usize
-    requires { Place at }
-    ensures { Place result }
-{
-    let spot = forward(text, Spot::new(), place);
-    let to = put_refused(out, at, colour, text, number, spot, error);
-    let to = put(out, to, b'\n');
-    if has_place(number) {
-        return put_caret(out, to, text, spot);
+    // Without its line.
+    pub fn put(self, out: &mut Output, colour: bool) -> fmt::Result {
+        let number = self.number;
+        let red = Colour::Red.if_wanted(colour);
+        let plain = Colour::Plain.if_wanted(colour);
+        write!(out, "{red}refusal {number}{plain}")?;
+        if has_place(number) {
+            write!(
+                out,
+                " at byte {}, line {}, column {}",
+                self.spot.byte, self.spot.line, self.spot.column
+            )?;
+        }
+        write!(out, ": {self}")
     }
-    to
+
+    // With its line.
+    pub fn put_report(self, out: &mut Output, colour: bool) -> fmt::Result {
+        self.put(out, colour)?;
+        out.write_str("\n")?;
+        if has_place(self.number) {
+            put_caret(out, self.text, self.spot)?;
+        }
+        Ok(())
+    }
 }

@@ -13,10 +13,8 @@ use lib.Seq.{take_all, take-length, get_or-take, get_or-append-add, drop_at}
 use Rattle.base.specs.Item.{Item}
 use Rattle.base.proofs.Tests.{by}
 use Rattle.base.proofs.Lists.{length_next}
-use Rattle.utf8.specs.declared.Checked.TheVariants.{Whole}
 use Rattle.utf8.specs.Utf8.{Utf8, none}
 use Rattle.utf8.specs.Sequence.{well_formed}
-use Rattle.utf8.specs.Answers.{checked_of}
 use Rattle.utf8.proofs.Outcomes.{not_whole}
 use Rattle.utf8.proofs.Exact.{utf8_exact, whole_exact, after_utf8}
 use Rattle.utf8.proofs.Split.{before_place}
@@ -58,7 +56,7 @@ module _ (t : List ℕ) (limit : ℕ) (tape : List ℕ) where
   -- a text that is read
   reads : Readable t → (answer_of t limit tape ≡ given_answer (length t) (items t) limit (room tape)) × (tape_of t limit tape ≡ given_tape (items t) limit tape)
   reads h =
-      let e = checks.read t limit tape Whole _ _ h.short (sym ((whole_exact t).1 h.utf8)) refl refl refl in
+      let e = checks.read t limit tape _ _ h.short (sym ((whole_exact t).1 h.utf8)) refl refl in
       (sym e.0, sym e.1)
 
   -- the answer and the tape of each row
@@ -73,7 +71,7 @@ module _ (t : List ℕ) (limit : ℕ) (tape : List ℕ) where
 
   pub row_3 : length t ≤ longest → (Utf8 t → ⊥) → (answer_of t limit tape ≡ answer 3 (well_formed t) 0 0) × (tape_of t limit tape ≡ tape)
   row_3 h n =
-      let e = checks.not_utf8_lem t limit tape (checked_of t) 3 (well_formed t) h refl (not_whole t (well_formed t) refl (λ l. n ((utf8_exact t).1 l))) in
+      let e = checks.not_utf8_lem t limit tape _ h (sym (not_whole t (well_formed t) refl (λ l. n ((utf8_exact t).1 l)))) in
       (sym e.0, sym e.1)
 
   pub row_4 : Readable t → limit < length (items t) → limit ≤ room tape

@@ -1,7 +1,6 @@
 -- Laws of reading.
 pub mod Turn
 pub mod Reading
-pub mod Spans
 pub mod Entries
 pub mod Laws
 pub mod Examples

@@ -57,43 +57,42 @@ module _ (rule : List ℕ → Lexeme) (some : (t : List ℕ) → 0 < length t �
         let r = S.roomy in
         ap length S.written ∙ length_over old (entries (take n (tiles_eof rule 0 t))) (omega arith)
 
-    -- the limit is reached
-    pub at_limit : n ≡ limit → answer 4 at n 0 ≡ given_answer (length t) (tiles_eof rule 0 t) limit (room old)
-    unfolding given_answer
-    at_limit e =
-        let m = more in
-        let r = S.roomy in
-        let few = lt-leb (length (tiles_eof rule 0 t)) (min n (room old)) (omega arith) in
-        rw (← e, few, le-leb n (room old) r, start_here)
+    -- no more items are let
+    module _ (e : n ≡ min limit (room old)) where
+      stopped_tape : tape ≡ given_tape (tiles_eof rule 0 t) limit old
+      unfolding given_tape
+      stopped_tape = rw (← e) S.written
 
-    pub at_limit_tape : n ≡ limit → tape ≡ given_tape (tiles_eof rule 0 t) limit old
-    unfolding given_tape
-    at_limit_tape e =
-        let r = S.roomy in
-        let m : min n (room old) ≡ n = omega arith in
-        rw (← e, m) S.written
+      -- by the limit
+      module _ (h : limit ≤ room old) where
+        pub at_limit : answer 4 at limit 0 ≡ given_answer (length t) (tiles_eof rule 0 t) limit (room old)
+        unfolding given_answer
+        at_limit =
+            let m = more in
+            let few = lt-leb (length (tiles_eof rule 0 t)) (min limit (room old)) (omega arith) in
+            let all : limit ≡ n = omega arith in
+            rw (few, le-leb limit (room old) h, all, start_here)
 
-    -- the tape is full
-    pub at_room : (n ≡ limit → ⊥) → n ≡ room old → answer 5 at n 0 ≡ given_answer (length t) (tiles_eof rule 0 t) limit (room old)
-    unfolding given_answer
-    at_room d e =
-        let m = more in
-        let g = S.given in
-        let few = lt-leb (length (tiles_eof rule 0 t)) (min limit n) (omega arith) in
-        let lim = lt-leb limit n (omega arith) in
-        rw (← e, few, lim, start_here)
+        pub at_limit_tape : tape ≡ given_tape (tiles_eof rule 0 t) limit old
+        at_limit_tape = stopped_tape
 
-    pub at_room_tape : (n ≡ limit → ⊥) → n ≡ room old → tape ≡ given_tape (tiles_eof rule 0 t) limit old
-    unfolding given_tape
-    at_room_tape d e =
-        let g = S.given in
-        let m : min limit n ≡ n = omega arith in
-        rw (← e, m) S.written
+      -- by the tape's end
+      module _ (h : room old < limit) where
+        pub at_room : answer 5 at (room old) 0 ≡ given_answer (length t) (tiles_eof rule 0 t) limit (room old)
+        unfolding given_answer
+        at_room =
+            let m = more in
+            let few = lt-leb (length (tiles_eof rule 0 t)) (min limit (room old)) (omega arith) in
+            let all : unread (room old) (tiles_eof rule 0 t) ≡ at = ap (λ (k : ℕ). unread k (tiles_eof rule 0 t)) (let k : room old ≡ n = omega arith in k) ∙ start_here in
+            rw (few, lt-leb limit (room old) h, all)
+
+        pub at_room_tape : tape ≡ given_tape (tiles_eof rule 0 t) limit old
+        at_room_tape = stopped_tape
 
     -- an item is due, and there is room for it
-    module _ (d : n ≡ limit → ⊥) (f : n ≡ room old → ⊥) where
+    module _ (d : n < min limit (room old)) where
       pub fits_entry : n < room tape
-      fits_entry = let r = S.roomy in omega (arith, length_tape)
+      fits_entry = omega (arith, length_tape)
 
       -- the text is at its end
       module _ (e : at ≡ length t) where

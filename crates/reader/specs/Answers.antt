@@ -1,12 +1,12 @@
 -- Document 01, "Numbers given back", for item reading: the table's rows 2 to 5 and success, and what each leaves on the tape.
 -- Assumes nothing: these are definitions.
-use Rattle.std.specs.Prelude.{ℕ, min, List, ltb, leb, length, take, get_or}
+use Rattle.std.specs.Prelude.{ℕ, min, List, ltb, leb, length, take, get_or, Result, Ok, Err}
 use Rattle.base.specs.Text.{pick}
 use Rattle.base.specs.Item.{Item}
 use Rattle.codes.specs.Refusals.{done, too_long, token_limit, item_tape_full}
 pub use Rattle.codes.specs.Refusals.{longest}
-use Rattle.utf8.specs.declared.Checked.{Checked}
-use Rattle.utf8.specs.declared.Checked.TheVariants.{Whole, Refused}
+use Rattle.codes.specs.RefusalNumbers.{number_of}
+use Rattle.codes.specs.declared.refusal.Refused.{Refused}
 use Rattle.utf8.specs.Answers.{checked_of}
 use Rattle.tape.specs.Entry.{room, entries, over}
 use Rattle.tiles.specs.Tiles.{eof}
@@ -36,13 +36,13 @@ unfoldable pub given_tape : List Item → (limit : ℕ) → List ℕ → List �
 given_tape xs limit old = over old (entries (take (min limit (room old)) xs))
 
 -- 3: "text not UTF-8", with its place; tapes unchanged
-abbrev pub checked_answer : Checked → Answer → Answer
-checked_answer Whole a = a
-checked_answer (Refused number place) a = answer number place 0 0
+abbrev pub checked_answer : Result (Unit {0}) Refused → Answer → Answer
+checked_answer (Ok u) a = a
+checked_answer (Err r) a = answer (number_of r.refusal) r.place 0 0
 
-abbrev pub checked_tape : Checked → (old new : List ℕ) → List ℕ
-checked_tape Whole old new = new
-checked_tape (Refused number place) old new = old
+abbrev pub checked_tape : Result (Unit {0}) Refused → (old new : List ℕ) → List ℕ
+checked_tape (Ok u) old new = new
+checked_tape (Err r) old new = old
 
 -- 2: "text over 16,777,216 bytes"; tapes unchanged. "Checks run in the order shown"
 unfoldable pub answer_of : List ℕ → (limit : ℕ) → (tape : List ℕ) → Answer

@@ -7,7 +7,7 @@
 // 8 bytes length, then the bytes.
 #![tactic(auto)]
 
-ghost use Rattle.std.specs.Prelude.{◌+◌, ◌≤◌, ◌<◌, length};
+use paumelu::Answer;
 
 const STDIN: i32 = 0;
 
@@ -15,84 +15,124 @@ const STDOUT: i32 = 1;
 
 const STDERR: i32 = 2;
 
-// One clear line on standard error, and the run ends.
-fn refuse(line: &[u8]) -> bool {
-    io::write_all(STDERR, line);
-    false
+// How many bytes a case has before its text.
+const HEAD: usize = 29;
+
+// What each byte of a tape, and of the C interface's outputs, is before a call.
+const BEFORE: u8 = 0xA5;
+
+// Stays: beside `show`'s and the grammar's. Each program takes entries that the other has not (the C interface; a page), by numbers of its own.
+#[derive(Clone, Copy, Debug, PartialEq, Eq)]
+enum Entry {
+    Items,
+    Value,
+    Constant,
+    Type,
+    Selection,
+    Part,
+    Interface,
 }
 
-fn wide(b: u8) -> u64
-    ensures { result < 256 }
-{
-    b as u64
-}
+impl TryFrom<u8> for Entry {
+    type Error = Stop;
 
-// The number of `count` bytes from index `from` on, most significant first.
-fn number(b: &[u8], from: usize, count: usize) -> u64
-    requires { from + count ≤ length b.now }
-{
-    let mut v: u64 = 0;
-    let mut i = 0;
-    while i < count {
-        v = (v % 0x100_0000_0000_0000) * 256 + wide(b[from + i]);
-        i += 1;
-    }
-    v
-}
-
-// Writes the 8 bytes of v at o, most significant first.
-fn put_number(out: &mut [u8], o: usize, v: u64)
-    requires { o + 8 ≤ length out.old }
-{
-    let mut rest = v;
-    let mut i = 8;
-    while i > 0 {
-        i -= 1;
-        out[o + i] = (rest % 256) as u8;
-        rest /= 256;
+    fn try_from(number: u8) -> Result<Entry, Stop> {
+        match number {
+            0 => Ok(Entry::Items),
+            1 => Ok(Entry::Value),
+            2 => Ok(Entry::Constant),
+            3 => Ok(Entry::Type),
+            4 => Ok(Entry::Selection),
+            5 => Ok(Entry::Part),
+            6 => Ok(Entry::Interface),
+            _ => Err(Stop::UnknownEntry),
+        }
     }
 }
 
-// Every byte is A5.
-fn fill(tape: &mut [u8]) {
-    let mut i = 0;
-    while i < tape.len() {
-        tape[i] = 0xA5;
-        i += 1;
+// Why the run ends.
+#[derive(Clone, Copy, Debug, PartialEq, Eq)]
+enum Stop {
+    End,
+    Unwritten,
+    CutShort,
+    LongText,
+    LongItemTape,
+    LongEventTape,
+    UnknownEntry,
+}
+
+impl Stop {
+    // One clear line on standard error, if a case is refused.
+    fn line(self) -> &'static str {
+        match self {
+            Stop::End | Stop::Unwritten => "",
+            Stop::CutShort => "replay: a case is cut short\n",
+            Stop::LongText => "replay: a text of over 1,048,577 bytes\n",
+            Stop::LongItemTape => "replay: an item tape of over 2,097,152 bytes\n",
+            Stop::LongEventTape => "replay: an event tape of over 2,097,152 bytes\n",
+            Stop::UnknownEntry => "replay: an unknown entry\n",
+        }
+    }
+}
+
+// A case, but for its text.
+#[derive(Clone, Copy, Debug)]
+struct Case {
+    entry: u8,
+    limit: u64,
+    depth: u64,
+    item_bytes: usize,
+    event_bytes: usize,
+    text_bytes: usize,
+}
+
+// The case that these bytes begin, unless they are too few.
+fn parse(bytes: &[u8]) -> Option<Case> {
+    let (entry, bytes) = bytes.split_first()?;
+    let (limit, bytes) = bytes.split_first_chunk()?;
+    let (depth, bytes) = bytes.split_first_chunk()?;
+    let (items, bytes) = bytes.split_first_chunk()?;
+    let (events, bytes) = bytes.split_first_chunk()?;
+    let (text, _) = bytes.split_first_chunk()?;
+    Some(Case {
+        entry: *entry,
+        limit: u64::from_be_bytes(*limit),
+        depth: u64::from_be_bytes(*depth),
+        item_bytes: u32::from_be_bytes(*items) as usize,
+        event_bytes: u32::from_be_bytes(*events) as usize,
+        text_bytes: u32::from_be_bytes(*text) as usize,
+    })
+}
+
+fn write(bytes: &[u8]) -> Result<(), Stop> {
+    if io::write_all(STDOUT, bytes) {
+        Ok(())
+    } else {
+        Err(Stop::Unwritten)
     }
 }
 
 // Writes an answer and both tapes.
-fn write_answer(a: paumelu::Answer, items: &[u8], events: &[u8]) -> bool {
-    let mut out = [0u8; 32];
-    put_number(&mut out, 0, a.number as u64);
-    put_number(&mut out, 8, a.place as u64);
-    put_number(&mut out, 16, a.items as u64);
-    put_number(&mut out, 24, a.events as u64);
-    if !io::write_all(STDOUT, &out) {
-        return false;
-    }
-    if !io::write_all(STDOUT, items) {
-        return false;
-    }
-    io::write_all(STDOUT, events)
+fn write_answer(a: Answer, items: &[u8], events: &[u8]) -> Result<(), Stop> {
+    let numbers = [a.number, a.place, a.items, a.events].map(|n| (n as u64).to_be_bytes());
+    write(numbers.as_flattened())?;
+    write(items)?;
+    write(events)
 }
 
-fn write_part(text: &[u8], start: u64, length: u64) -> bool {
+fn write_part(text: &[u8], start: u64, length: u64) -> Result<(), Stop> {
     let part = paumelu::part(text, start as usize, length as usize);
-    let mut out = [0u8; 8];
-    put_number(&mut out, 0, part.len() as u64);
-    if !io::write_all(STDOUT, &out) {
-        return false;
-    }
-    io::write_all(STDOUT, part)
+    write(&(part.len() as u64).to_be_bytes())?;
+    write(part)
 }
 
-// Reads as C does, by the call that `paumelu_c` exports: its three outputs hold A5 in every byte before the call.
-fn read_by_interface(entry: u64, text: &[u8], limit: u64, items: &mut [u8]) -> paumelu::Answer {
-    let mut place: u64 = 0xA5A5_A5A5_A5A5_A5A5;
-    let mut count: u64 = 0xA5A5_A5A5_A5A5_A5A5;
-    let mut events: u64 = 0xA5A5_A5A5_A5A5_A5A5;
+// Reads as C does, by the call that `paumelu_c` exports.
+fn read_by_interface(entry: u64, text: &[u8], limit: u64, items: &mut [u8]) -> Answer {
+    let before = u64::from_be_bytes([BEFORE; 8]);
+    let mut place = before;
+    let mut count = before;
+    let mut events = before;
     let number = paumelu::paumelu_read(
         entry,
         text,
@@ -102,7 +142,7 @@ fn read_by_interface(entry: u64, text: &[u8], limit: u64, items: &mut [u8]) -> p
         &mut count,
         &mut events,
     );
-    paumelu::Answer {
+    Answer {
         number: number as usize,
         place: place as usize,
         items: count as usize,
@@ -110,112 +150,62 @@ fn read_by_interface(entry: u64, text: &[u8], limit: u64, items: &mut [u8]) -> p
     }
 }
 
-// Reads by one of the grammar's entries, 1 to 4.
-fn read_grammar(
-    entry: u8,
-    text: &[u8],
-    limit: usize,
-    depth: usize,
-    items: &mut [u8],
-    events: &mut [u8],
-) -> paumelu::Answer {
-    if entry == 1 {
-        return paumelu::read_value(text, limit, depth, items, events);
-    }
-    if entry == 2 {
-        return paumelu::read_constant(text, limit, depth, items, events);
-    }
-    if entry == 3 {
-        return paumelu::read_type(text, limit, depth, items, events);
-    }
-    paumelu::read_selection_set(text, limit, depth, items, events)
-}
-
 // Answers one case whose tapes are lent at their lengths.
-fn answer(
-    entry: u8,
-    limit: u64,
-    depth: u64,
-    text: &[u8],
-    items: &mut [u8],
-    events: &mut [u8],
-) -> bool {
-    if entry == 5 {
-        return write_part(text, limit, depth);
-    }
-    fill(items);
-    fill(events);
-    if entry == 0 {
-        let a = paumelu::read_items(text, limit as usize, items);
-        return write_answer(a, items, events);
-    }
-    if entry == 6 {
-        let a = read_by_interface(depth, text, limit, items);
-        return write_answer(a, items, events);
-    }
-    if entry > 6 {
-        return refuse(b"replay: an unknown entry\n");
-    }
-    let a = read_grammar(entry, text, limit as usize, depth as usize, items, events);
+fn answer(case: Case, text: &[u8], items: &mut [u8], events: &mut [u8]) -> Result<(), Stop> {
+    let limit = case.limit as usize;
+    let depth = case.depth as usize;
+    let entry = Entry::try_from(case.entry)?;
+    items.fill(BEFORE);
+    events.fill(BEFORE);
+    let a = match entry {
+        Entry::Part => return write_part(text, case.limit, case.depth),
+        Entry::Items => paumelu::read_items(text, limit, items),
+        Entry::Value => paumelu::read_value(text, limit, depth, items, events),
+        Entry::Constant => paumelu::read_constant(text, limit, depth, items, events),
+        Entry::Type => paumelu::read_type(text, limit, depth, items, events),
+        Entry::Selection => paumelu::read_selection_set(text, limit, depth, items, events),
+        Entry::Interface => read_by_interface(case.depth, text, case.limit, items),
+    };
     write_answer(a, items, events)
 }
 
-// Reads and answers one case; false where the run ends.
-fn one_case(text: &mut [u8], items: &mut [u8], events: &mut [u8]) -> bool {
-    let mut head = [0u8; 29];
+// Reads and answers one case.
+fn one_case(text: &mut [u8], items: &mut [u8], events: &mut [u8]) -> Result<(), Stop> {
+    let mut head = [0u8; HEAD];
     let got = io::read_full(STDIN, &mut head);
     if got == 0 {
-        return false;
+        return Err(Stop::End);
     }
-    if got < 29 {
-        return refuse(b"replay: a case is cut short\n");
+    let case = parse(&head[..got]).ok_or(Stop::CutShort)?;
+    let text = text.get_mut(..case.text_bytes).ok_or(Stop::LongText)?;
+    let items = items.get_mut(..case.item_bytes).ok_or(Stop::LongItemTape)?;
+    let events = events
+        .get_mut(..case.event_bytes)
+        .ok_or(Stop::LongEventTape)?;
+    if io::read_full(STDIN, text) < case.text_bytes {
+        return Err(Stop::CutShort);
     }
-    let entry = head[0];
-    let limit = number(&head, 1, 8);
-    let depth = number(&head, 9, 8);
-    let item_bytes = number(&head, 17, 4) as usize;
-    let event_bytes = number(&head, 21, 4) as usize;
-    let text_bytes = number(&head, 25, 4) as usize;
-    if text.len() < text_bytes {
-        return refuse(b"replay: a text of over 1,048,577 bytes\n");
-    }
-    if items.len() < item_bytes {
-        return refuse(b"replay: an item tape of over 2,097,152 bytes\n");
-    }
-    if events.len() < event_bytes {
-        return refuse(b"replay: an event tape of over 2,097,152 bytes\n");
-    }
-    if io::read_full(STDIN, &mut text[..text_bytes]) < text_bytes {
-        return refuse(b"replay: a case is cut short\n");
-    }
-    answer(
-        entry,
-        limit,
-        depth,
-        &text[..text_bytes],
-        &mut items[..item_bytes],
-        &mut events[..event_bytes],
-    )
+    answer(case, text, items, events)
 }
 
-// A proved loop has to end, and nothing says that the input does: it counts down from a number that no run uses up.
-fn all_cases(text: &mut [u8], items: &mut [u8], events: &mut [u8]) {
-    let mut turns = u64::MAX;
-    while turns > 0 {
-        if !one_case(text, items, events) {
-            return;
-        }
-        turns -= 1;
+// Nothing says that the input ends: the count is one that no run uses up. The arrays' lengths are any: the checker does not follow an array of a million
+// bytes that is passed as a slice where it is made.
+fn all_cases<const T: usize, const I: usize, const E: usize>(
+    text: &mut [u8; T],
+    items: &mut [u8; I],
+    events: &mut [u8; E],
+) -> Result<(), Stop> {
+    for _ in 0..u64::MAX {
+        one_case(text, items, events)?;
     }
-}
-
-fn lend(text: &mut [u8; 1048577], items: &mut [u8; 2097152], events: &mut [u8; 2097152]) {
-    all_cases(text, items, events);
+    Ok(())
 }
 
 fn main() {
     let mut text = [0u8; 1048577];
     let mut items = [0u8; 2097152];
     let mut events = [0u8; 2097152];
-    lend(&mut text, &mut items, &mut events);
+    if let Err(stop) = all_cases(&mut text, &mut items, &mut events) {
+        io::write_all(STDERR, stop.line().as_bytes());
+    }
 }

@@ -1,20 +1,23 @@
 -- Arguments, step by step: what the reader does at a token, and what is read there. Assumes nothing.
-use Prim.Native.Nat.{ℕ, ◌+◌}
+use Prim.Native.Nat.{ℕ}
 use mathlib.Core.Path.{◌≡◌, refl, sym, ◌∙◌}
 use mathlib.Core.Bool.{Bool, true, false}
-use mathlib.Core.List.{List, [], ◌∷◌, ◌++◌}
+use mathlib.Core.List.{List, [], ◌∷◌}
 use native.Mathlib.Omega.{arith}
 use borrow.Author.Tests.{eq-eqb, ne_eqb, eqb-true}
 use lib.Dec.{eqb}
 use Rattle.base.proofs.Tests.{by, apart}
 use Rattle.syntax.specs.Token.{is_name, Token, end_of, token_event, opens, closes, name_events}
-use Rattle.syntax.specs.Machine.{Sym, value, colon_due, close, opt_arguments, first_argument, arguments, go, stop, or_arguments, or_argument, at_arguments, step, refused, run}
-use Rattle.parser.specs.declared.Peeked.{Peeked}
-use Rattle.parser.specs.declared.Step.{Step}
-use Rattle.parser.specs.View.{rest, token_of, Front}
-use Rattle.parser.specs.Events.{Puts}
-use Rattle.parser.specs.Promise.{Took, Outcome}
-use Rattle.parser.proofs.Moves.{run_at, took_one, stop_one, stop_then, then, same_due, Passed, passed_then}
+use Rattle.syntax.specs.Machine.{Sym, value, colon_due, close, opt_arguments, first_argument, arguments, go, stop, or_arguments, or_argument, at_arguments, step}
+use Rattle.codes.specs.RefusalNumbers.{number_of}
+use Rattle.codes.specs.declared.refusal.Refused.{Refused}
+use Rattle.parser.specs.declared.token.Peeked.{Peeked}
+use Rattle.parser.specs.declared.token.Reached.{Reached}
+use Rattle.parser.specs.declared.events.Events.{Events}
+use Rattle.parser.specs.View.{behind, token_of, Front}
+use Rattle.parser.specs.Events.{Wrote}
+use Rattle.parser.specs.Promise.{reads, Took, Stopped}
+use Rattle.parser.proofs.Moves.{run_at, took_one, stop_one}
 use Rattle.values.proofs.Steps.{name_kind}
 
 -- ---- the reader's step at a token t
@@ -50,51 +53,37 @@ module _ (c : Bool) (l r : ℕ) (t : Token) (K : List Sym) where
   arguments_none s b e = rw (ne_eqb t.kind 8 b, e)
 
 -- ---- what is read at a token p
-module _ (c : Bool) (t : List ℕ) (l i d : ℕ) (p : Peeked) (F : Front t i p) where
+module _ (c : Bool) (t : List ℕ) (from : Reached) (d : ℕ) (p : Peeked) (F : Front t from.next p) where
   -- no arguments: what follows is due
-  pub arguments_absent : (p.kind ≡ 7 → ⊥) → (K : List Sym) → run c (opt_arguments d ∷ K) l (rest t i) ≡ run c K l (rest t i)
-  arguments_absent k K = run_at c t l i p F (opt_arguments d ∷ K) ∙ rw (no_arguments_lem c l d (token_of p) K k) (sym (run_at c t l i p F K))
+  pub arguments_absent : ((token_of p).kind ≡ 7 → ⊥) → (K : List Sym) → reads c t (opt_arguments d ∷ K) from ≡ reads c t K from
+  arguments_absent k K = run_at c t from p F (opt_arguments d ∷ K) ∙ rw (no_arguments_lem c from.end d (token_of p) K k) (sym (run_at c t from p F K))
 
-  first_run : (s : ℕ) → is_name p.kind ≡ true → (K : List Sym) → run c (first_argument d s ∷ K) l (rest t i) ≡ run c (arguments d s ∷ K) l (rest t i)
-  first_run s e K =
-      run_at c t l i p F (first_argument d s ∷ K) ∙ rw (first_argument_lem c l d (token_of p) K s e) (sym (run_at c t l i p F (arguments d s ∷ K)))
+  -- the `(`
+  pub arguments_opened : {a b : Events} → (token_of p).kind ≡ 7 → Wrote a b (opens 18 p.start ∷ token_event (token_of p) ∷ [])
+      → Took c t (opt_arguments d ∷ []) (first_argument d p.start ∷ []) a b from (behind p)
+  arguments_opened k w = took_one c t from p F (opt_arguments d ∷ []) (first_argument d p.start ∷ []) (λ K. arguments_open c from.end d (token_of p) K k) (λ z. omega arith) w
 
-  first_stop : (s : ℕ) → is_name p.kind ≡ false → (K : List Sym) → run c ((first_argument d s ∷ []) ++ K) l (rest t i) ≡ refused 9 p.start
-  first_stop s e = stop_one c t l i p F (first_argument d s ∷ []) 9 (λ K. no_argument c l d (token_of p) K s e)
-
-  pub arguments_stop : (s : ℕ) → (p.kind ≡ 8 → ⊥) → is_name p.kind ≡ false
-      → (K : List Sym) → run c ((arguments d s ∷ []) ++ K) l (rest t i) ≡ refused 9 p.start
-  arguments_stop s b e = stop_one c t l i p F (arguments d s ∷ []) 9 (λ K. arguments_none c l d (token_of p) K s b e)
-
-  module _ (s : ℕ) (ev : List ℕ) (o : ℕ) (ev' : List ℕ) (o' : ℕ) where
-    -- an argument's name
-    pub argument_named : is_name p.kind ≡ true → Puts ev o ev' o' (opens 19 p.start ∷ name_events (token_of p))
-        → Took c t (arguments d s ∷ []) l i ev o ev' (colon_due ∷ value d ∷ close 19 p.start ∷ arguments d s ∷ []) p.next (p.start + p.size) o'
-    argument_named e w =
-        took_one c t l i p F (arguments d s ∷ []) (colon_due ∷ value d ∷ close 19 p.start ∷ arguments d s ∷ []) _ ev o ev' o'
-        (λ K. argument_name c l d (token_of p) K s e) (name_kind p.kind e).1 w
-
-    -- the `)`
-    pub arguments_closed : p.kind ≡ 8 → Puts ev o ev' o' (token_event (token_of p) ∷ closes 18 s (end_of (token_of p)) ∷ [])
-        → Took c t (arguments d s ∷ []) l i ev o ev' [] p.next (p.start + p.size) o'
-    arguments_closed k w =
-        took_one c t l i p F (arguments d s ∷ []) [] _ ev o ev' o' (λ K. arguments_end c l d (token_of p) K s k) (λ z. omega arith) w
-
--- ---- arguments, after their `(`, which is q: p is the token after it
-module _ (c : Bool) (t : List ℕ) (at l d : ℕ) (q : Peeked) (Q : Front t at q) (k : q.kind ≡ 7) (ev : List ℕ) (out : ℕ) (ev₁ : List ℕ) (o₁ : ℕ)
-    (w : Puts ev out ev₁ o₁ (opens 18 q.start ∷ token_event (token_of q) ∷ [])) (p : Peeked) (F : Front t q.next p) where
-  opened : Took c t (opt_arguments d ∷ []) l at ev out ev₁ (first_argument d q.start ∷ []) q.next (q.start + q.size) o₁
-  opened =
-      took_one c t l at q Q (opt_arguments d ∷ []) (first_argument d q.start ∷ []) _ ev out ev₁ o₁
-      (λ K. arguments_open c l d (token_of q) K k) (λ z. omega arith) w
+  -- the first argument is as any other
+  pub first_run : (s : ℕ) → is_name (token_of p).kind ≡ true → (K : List Sym) → reads c t (first_argument d s ∷ K) from ≡ reads c t (arguments d s ∷ K) from
+  first_run s e K = run_at c t from p F (first_argument d s ∷ K) ∙ rw (first_argument_lem c from.end d (token_of p) K s e) (sym (run_at c t from p F (arguments d s ∷ K)))
 
   -- at least one is due
-  pub arguments_empty : is_name p.kind ≡ false → (K : List Sym) → run c ((opt_arguments d ∷ []) ++ K) l (rest t at) ≡ refused 9 p.start
-  arguments_empty e = stop_then opened.went 9 p.start (first_stop c t (q.start + q.size) q.next d p F q.start e)
+  pub first_stop : {a : Events} (s : ℕ) → is_name (token_of p).kind ≡ false → (r : Refused) → number_of r.refusal ≡ 9 → r.place ≡ p.start
+      → Stopped c t (first_argument d s ∷ []) a a from r
+  first_stop s e r n q = stop_one c t from p F (first_argument d s ∷ []) r (λ K. rw n (no_argument c from.end d (token_of p) K s e)) q
 
-  pub arguments_then : is_name p.kind ≡ true → (ev₂ : List ℕ) (i o : ℕ) (ev₃ : List ℕ) (r : Step)
-      → Passed c t (arguments d q.start ∷ []) q.next ev₁ o₁ ev₂ i o
-      → ((l : ℕ) → Outcome c t (arguments d q.start ∷ []) [] l i ev₂ o ev₃ r) → Outcome c t (opt_arguments d ∷ []) [] l at ev out ev₃ r
-  arguments_then e ev₂ i o ev₃ r h f =
-      then opened
-      (same_due (first_argument d q.start ∷ []) (first_run c t (q.start + q.size) q.next d p F q.start e) (passed_then h f (q.start + q.size)))
+  pub arguments_stop : {a : Events} (s : ℕ) → ((token_of p).kind ≡ 8 → ⊥) → is_name (token_of p).kind ≡ false → (r : Refused) → number_of r.refusal ≡ 9 → r.place ≡ p.start
+      → Stopped c t (arguments d s ∷ []) a a from r
+  arguments_stop s b e r n q = stop_one c t from p F (arguments d s ∷ []) r (λ K. rw n (arguments_none c from.end d (token_of p) K s b e)) q
+
+  -- an argument's name
+  pub argument_named : {a b : Events} (s : ℕ) → is_name (token_of p).kind ≡ true → Wrote a b (opens 19 p.start ∷ name_events (token_of p))
+      → Took c t (arguments d s ∷ []) (colon_due ∷ value d ∷ close 19 p.start ∷ arguments d s ∷ []) a b from (behind p)
+  argument_named s e w =
+      took_one c t from p F (arguments d s ∷ []) (colon_due ∷ value d ∷ close 19 p.start ∷ arguments d s ∷ [])
+      (λ K. argument_name c from.end d (token_of p) K s e) (name_kind _ e).1 w
+
+  -- the `)`
+  pub arguments_closed : {a b : Events} (s : ℕ) → (token_of p).kind ≡ 8 → Wrote a b (token_event (token_of p) ∷ closes 18 s (end_of (token_of p)) ∷ [])
+      → Took c t (arguments d s ∷ []) [] a b from (behind p)
+  arguments_closed s k w = took_one c t from p F (arguments d s ∷ []) [] (λ K. arguments_end c from.end d (token_of p) K s k) (λ z. omega arith) w

@@ -1,20 +1,20 @@
 -- Directives, step by step: what the reader does at a token, and what is read there. Assumes nothing.
-use Prim.Native.Nat.{ℕ, ◌+◌}
+use Prim.Native.Nat.{ℕ}
 use mathlib.Core.Path.{◌≡◌, sym, ◌∙◌}
 use mathlib.Core.Bool.{Bool}
 use mathlib.Core.List.{List, [], ◌∷◌}
 use native.Mathlib.Omega.{arith}
 use borrow.Author.Tests.{eq-eqb, ne_eqb}
-use Rattle.syntax.specs.Token.{Token, end_of, token_event, opens, closes}
-use Rattle.syntax.specs.Machine.{Sym, name, close, opt_arguments, opt_directives, directives, go, or_directive, step, emits, run}
-use Rattle.parser.specs.declared.Peeked.{Peeked}
-use Rattle.parser.specs.declared.Step.TheVariants.{Done}
-use Rattle.parser.specs.View.{rest, token_of, Front}
-use Rattle.parser.specs.Events.{Puts}
-use Rattle.parser.specs.Promise.{Took, Ready, Goes}
-use Rattle.syntax.proofs.Steps.{emits_emits}
-use Rattle.parser.proofs.Moves.{run_at, took_one}
-use Rattle.parser.proofs.Onward.{same, closed}
+use Rattle.syntax.specs.Token.{Token, token_event, opens, closes}
+use Rattle.syntax.specs.Machine.{Sym, name, close, opt_arguments, opt_directives, directives, go, or_directive, step, emits}
+use Rattle.syntax.proofs.Steps.{emits_emits, run_close}
+use Rattle.parser.specs.declared.token.Peeked.{Peeked}
+use Rattle.parser.specs.declared.token.Reached.{Reached}
+use Rattle.parser.specs.declared.events.Events.{Events}
+use Rattle.parser.specs.View.{behind, rest, token_of, Front}
+use Rattle.parser.specs.Events.{Wrote}
+use Rattle.parser.specs.Promise.{Ready, reads, Went, Took}
+use Rattle.parser.proofs.Moves.{run_at, took_one, went_first}
 
 -- ---- the reader's step at a token t
 module _ (c : Bool) (l r : ℕ) (t : Token) (K : List Sym) where
@@ -39,31 +39,30 @@ module _ (c : Bool) (l r : ℕ) (t : Token) (K : List Sym) where
   no_directives_lem e = rw (ne_eqb t.kind 12 e)
 
 -- ---- what is read at a token p
-module _ (c : Bool) (t : List ℕ) (l i d : ℕ) (p : Peeked) (F : Front t i p) where
+module _ (c : Bool) (t : List ℕ) (from : Reached) (d : ℕ) (p : Peeked) (F : Front t from.next p) where
   -- a directive's `@`
-  pub directive_opened : (s : ℕ) (ev : List ℕ) (o : ℕ) (ev' : List ℕ) (o' : ℕ) → p.kind ≡ 12
-      → Puts ev o ev' o' (opens 21 p.start ∷ token_event (token_of p) ∷ [])
-      → Took c t (directives d s ∷ []) l i ev o ev' (name ∷ opt_arguments d ∷ close 21 p.start ∷ directives d s ∷ []) p.next (p.start + p.size) o'
-  directive_opened s ev o ev' o' k w =
-      took_one c t l i p F (directives d s ∷ []) (name ∷ opt_arguments d ∷ close 21 p.start ∷ directives d s ∷ []) _ ev o ev' o'
-      (λ K. directive_open c l d (token_of p) K s k) (λ z. omega arith) w
+  pub directive_opened : {a b : Events} (s : ℕ) → (token_of p).kind ≡ 12 → Wrote a b (opens 21 p.start ∷ token_event (token_of p) ∷ [])
+      → Took c t (directives d s ∷ []) (name ∷ opt_arguments d ∷ close 21 p.start ∷ directives d s ∷ []) a b from (behind p)
+  directive_opened s k w =
+      took_one c t from p F (directives d s ∷ []) (name ∷ opt_arguments d ∷ close 21 p.start ∷ directives d s ∷ [])
+      (λ K. directive_open c from.end d (token_of p) K s k) (λ z. omega arith) w
 
-  no_more : (s : ℕ) → (p.kind ≡ 12 → ⊥) → (K : List Sym) → run c (directives d s ∷ K) l (rest t i) ≡ run c (close 20 s ∷ K) l (rest t i)
-  no_more s k K = run_at c t l i p F (directives d s ∷ K) ∙ rw (no_directive c l d (token_of p) K s k) (sym (run_at c t l i p F (close 20 s ∷ K)))
+  no_more : (s : ℕ) → ((token_of p).kind ≡ 12 → ⊥) → (K : List Sym) → reads c t (directives d s ∷ K) from ≡ reads c t (close 20 s ∷ K) from
+  no_more s k K = run_at c t from p F (directives d s ∷ K) ∙ rw (no_directive c from.end d (token_of p) K s k) (sym (run_at c t from p F (close 20 s ∷ K)))
 
   -- no further one: the node closes
-  pub directives_closed : (s : ℕ) (ev : List ℕ) (o : ℕ) (ev' : List ℕ) (o' : ℕ) → (p.kind ≡ 12 → ⊥) → Ready t (Done i l o) → Puts ev o ev' o' (closes 20 s l ∷ [])
-      → Goes c t (directives d s ∷ []) [] ev ev' (Done i l o) (Done i l o')
-  directives_closed s ev o ev' o' k h w = same (directives d s ∷ []) (no_more s k) (closed h w)
+  pub directives_closed : {a b : Events} (s : ℕ) → ((token_of p).kind ≡ 12 → ⊥) → Ready t from → Wrote a b (closes 20 s from.end ∷ [])
+      → Went c t (directives d s ∷ []) [] a b from from
+  directives_closed s k R w = went_first R w (λ K. no_more s k K ∙ run_close c 20 s from.end K (rest t from.next))
 
   -- none at all: what follows is due
-  pub directives_absent : (p.kind ≡ 12 → ⊥) → (K : List Sym) → run c (opt_directives d ∷ K) l (rest t i) ≡ run c K l (rest t i)
-  directives_absent k K = run_at c t l i p F (opt_directives d ∷ K) ∙ rw (no_directives_lem c l d (token_of p) K k) (sym (run_at c t l i p F K))
+  pub directives_absent : ((token_of p).kind ≡ 12 → ⊥) → (K : List Sym) → reads c t (opt_directives d ∷ K) from ≡ reads c t K from
+  directives_absent k K = run_at c t from p F (opt_directives d ∷ K) ∙ rw (no_directives_lem c from.end d (token_of p) K k) (sym (run_at c t from p F K))
 
   -- some: the node opens where the first begins
-  pub directives_begin : p.kind ≡ 12
-      → (K : List Sym) → run c (opt_directives d ∷ K) l (rest t i) ≡ emits (opens 20 p.start ∷ []) (run c (directives d p.start ∷ K) l (rest t i))
+  pub directives_begin : (token_of p).kind ≡ 12
+      → (K : List Sym) → reads c t (opt_directives d ∷ K) from ≡ emits (opens 20 p.start ∷ []) (reads c t (directives d p.start ∷ K) from)
   directives_begin k K =
-      run_at c t l i p F (opt_directives d ∷ K)
-      ∙ rw (directives_open c l d (token_of p) K k, run_at c t l i p F (directives d p.start ∷ K), directive_open c l d (token_of p) K p.start k)
-      (sym (emits_emits (opens 20 p.start ∷ []) (opens 21 p.start ∷ token_event (token_of p) ∷ []) (run c (name ∷ opt_arguments d ∷ close 21 p.start ∷ directives d p.start ∷ K) (end_of (token_of p)) (rest t p.next))))
+      run_at c t from p F (opt_directives d ∷ K)
+      ∙ rw (directives_open c from.end d (token_of p) K k, run_at c t from p F (directives d p.start ∷ K), directive_open c from.end d (token_of p) K p.start k)
+      (sym (emits_emits (opens 20 p.start ∷ []) (opens 21 p.start ∷ token_event (token_of p) ∷ []) (reads c t (name ∷ opt_arguments d ∷ close 21 p.start ∷ directives d p.start ∷ K) (behind p))))

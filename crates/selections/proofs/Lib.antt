@@ -1,5 +1,4 @@
 -- Laws of selections.
-pub mod Ready
 pub mod ArgumentSteps
 pub mod DirectiveSteps
 pub mod Sets

@@ -1,34 +1,35 @@
--- Selection sets in the reader's definition, token by token and turn by turn, and from step to step. Assumes nothing.
-use Prim.Native.Nat.{ℕ, zero, suc, ◌+◌, ◌-◌, ◌^◌, ◌<◌}
+-- Selection sets in the reader's definition, token by token and turn by turn. Assumes nothing.
+use Prim.Native.Nat.{ℕ, zero, suc, ◌-◌}
 use mathlib.Core.Path.{◌≡◌, refl, sym, ap, ◌∙◌}
 use mathlib.Core.Bool.{Bool, true, false}
-use mathlib.Core.List.{List, [], ◌∷◌, ◌++◌}
+use mathlib.Core.List.{List, [], ◌∷◌}
 use native.Mathlib.Omega.{arith}
 use borrow.Author.Tests.{ne_eqb, eqb-true}
 use lib.Dec.{eqb}
-use lib.ListN.{length}
 use Rattle.base.specs.Item.{Item}
 use Rattle.base.proofs.Tests.{by, or_false, apart}
 use Rattle.syntax.specs.Token.{is_name, Token, end_of, token_event, opens, closes}
-use Rattle.syntax.specs.Machine.{Sym, selection_set, opt_selection_set, first_selection, selections, named, spread, go, stop, also, or_selection_set, or_selection, at_selections, step, refused, emits, run}
-use Rattle.parser.specs.declared.Peeked.{Peeked}
-use Rattle.parser.specs.declared.Step.{Step}
-use Rattle.parser.specs.declared.Step.TheVariants.{Done, Stop}
-use Rattle.parser.specs.View.{Holds, rest, token_of, Front}
-use Rattle.parser.specs.Events.{Puts}
-use Rattle.parser.specs.Promise.{Took, Outcome, stopped, Ready, Goes, halted}
-use Rattle.parser.proofs.Events.{puts_none}
+use Rattle.syntax.specs.Machine.{Sym, selection_set, opt_selection_set, first_selection, selections, named, spread, go, stop, also, or_selection_set, or_selection, at_selections, step, emits}
 use Rattle.syntax.proofs.Steps.{moved_also}
-use Rattle.parser.proofs.Moves.{narrow, run_at, took_one, stop_one, then, same_due, Passed, passed_then}
-use Rattle.parser.proofs.Onward.{below, after, same, nothing}
-use Rattle.selections.specs.Follows.{begins_selection, leads, follows}
+use Rattle.std.specs.Prelude.{Result}
+use Rattle.codes.specs.RefusalNumbers.{number_of}
+use Rattle.codes.specs.declared.refusal.Refused.{Refused}
+use Rattle.parser.specs.declared.token.Peeked.{Peeked}
+use Rattle.parser.specs.declared.token.Reached.{Reached}
+use Rattle.parser.specs.declared.events.Events.{Events}
+use Rattle.parser.specs.View.{behind, token_of, Front}
+use Rattle.parser.specs.Events.{Wrote}
+use Rattle.parser.specs.Promise.{reads, Took, Stopped, Outcome, Goes}
+use Rattle.parser.proofs.Writing.{wrote_none}
+use Rattle.parser.proofs.Moves.{run_at, took_one, stop_one, took_goes, goes_below}
+use Rattle.selections.specs.Follows.{begins_selection}
 
 -- ---- what a selection begins with
 
 -- a `...` or a Name
-pub begins_name : (k : ℕ) → begins_selection k ≡ true → (k ≡ 9 → ⊥) → is_name k ≡ true
+pub begins_dots : (k : ℕ) → begins_selection k ≡ true → is_name k ≡ false → k ≡ 9
 unfolding begins_selection
-begins_name k e z = rw (ne_eqb k 9 z) at e
+begins_dots k e n = by (eqb k 9) (λ z. eqb-true k 9 z) (λ z. apart (begins_selection k) e (rw (z, n)))
 
 begins_not : (k : ℕ) → begins_selection k ≡ false → (eqb k 9 ≡ false) × (is_name k ≡ false)
 unfolding begins_selection
@@ -80,109 +81,78 @@ unfolding step at_selections or_selection begins_selection is_name
 first_begins c l r s t K e =
     by (eqb t.kind 17) (λ z. let q = eqb-true t.kind 17 z in apart (begins_selection 17) (rw q at e) refl) (λ z. rw z)
 
--- ---- runs
+-- ---- a set begins at its `{`, which is p; or none stands there
+module _ (c : Bool) (t : List ℕ) (from : Reached) (d : ℕ) (p : Peeked) (F : Front t from.next p) where
+  pub set_opened : {a b : Events} → (token_of p).kind ≡ 15 → Wrote a b (opens 15 p.start ∷ token_event (token_of p) ∷ [])
+      → Took c t (selection_set d ∷ []) (first_selection d p.start ∷ []) a b from (behind p)
+  set_opened k w = took_one c t from p F (selection_set d ∷ []) (first_selection d p.start ∷ []) (λ K. at_set c from.end d (token_of p) K k) (λ z. omega arith) w
 
--- with depth left, a selection set's first selection is read as its further ones are
-first_run : (c : Bool) (t : List ℕ) (l at d s : ℕ) (p : Peeked) → Front t at p → (d ≡ 0 → ⊥) → begins_selection p.kind ≡ true
-    → (K : List Sym) → run c (first_selection d s ∷ K) l (rest t at) ≡ run c (selections (d - 1) s ∷ K) l (rest t at)
-first_run c t l at zero s p F z b K = absurd (z refl)
-first_run c t l at (suc r) s p F z b K =
-    let q : suc r - 1 ≡ r = omega arith in
-    rw q (run_at c t l at p F (first_selection (suc r) s ∷ K) ∙ rw (first_begins c l r s (token_of p) K b) (sym (run_at c t l at p F (selections r s ∷ K))))
+  pub set_missing : {a : Events} → ((token_of p).kind ≡ 15 → ⊥) → (r : Refused) → number_of r.refusal ≡ 9 → r.place ≡ p.start → Stopped c t (selection_set d ∷ []) a a from r
+  set_missing e r n q = stop_one c t from p F (selection_set d ∷ []) r (λ K. rw n (no_set_lem c from.end d (token_of p) K e)) q
 
--- where one stack gives events and then does what another does
-pub also_run : (c : Bool) (t : List ℕ) (l at : ℕ) (p : Peeked) → Front t at p → (es : List Item) (S S' : List Sym)
-    → step c l S (token_of p) ≡ also es (step c l S' (token_of p)) → run c S l (rest t at) ≡ emits es (run c S' l (rest t at))
-also_run c t l at p F es S S' e =
-    run_at c t l at p F S ∙ rw e (moved_also es (step c l S' (token_of p)) p.start (λ K'. run c K' (end_of (token_of p)) (rest t p.next)) ∙ ap (emits es) (sym (run_at c t l at p F S')))
+  opt_none : (K : List Sym) → ((token_of p).kind ≡ 15 → ⊥) → step c from.end (opt_selection_set d ∷ K) (token_of p) ≡ step c from.end K (token_of p)
+  unfolding step or_selection_set
+  opt_none K e = rw (ne_eqb (token_of p).kind 15 e)
 
--- ---- a selection, whose first token is p
-module _ (c : Bool) (t : List ℕ) (l at d s : ℕ) (p : Peeked) (F : Front t at p) (ev : List ℕ) (out : ℕ) (ev' : List ℕ) (r : Step) where
-  begun_by : (X : Sym) → (p.kind ≡ 0 → ⊥) → ((K : List Sym) → step c l (selections d s ∷ K) (token_of p) ≡ go [] (X ∷ selections d s ∷ K))
-      → Goes c t (X ∷ []) [] ev ev' (Done p.next (p.start + p.size) out) r → Outcome c t (selections d s ∷ []) (selections d s ∷ []) l at ev out ev' r
-  begun_by X n m h =
-      after (took_one c t l at p F (selections d s ∷ []) (X ∷ selections d s ∷ []) [] ev out ev out m n (puts_none ev out)) (below (selections d s ∷ []) h)
+  opt_some : (K : List Sym) → (token_of p).kind ≡ 15 → step c from.end (opt_selection_set d ∷ K) (token_of p) ≡ step c from.end (selection_set d ∷ K) (token_of p)
+  unfolding step or_selection_set
+  opt_some K e = rw e
 
-  pub by_field : is_name p.kind ≡ true → Goes c t (named d (token_of p) ∷ []) [] ev ev' (Done p.next (p.start + p.size) out) r
-      → Outcome c t (selections d s ∷ []) (selections d s ∷ []) l at ev out ev' r
-  unfolding is_name
-  by_field e h = begun_by (named d (token_of p)) (λ z. apart (is_name 0) (rw z at e) refl) (λ K. set_name c l d (token_of p) K s e) h
+  -- a selection set, or none
+  pub set_absent : ((token_of p).kind ≡ 15 → ⊥) → (K : List Sym) → reads c t (opt_selection_set d ∷ K) from ≡ reads c t K from
+  set_absent e K = run_at c t from p F (opt_selection_set d ∷ K) ∙ rw (opt_none K e) (sym (run_at c t from p F K))
 
-  pub by_dots : p.kind ≡ 9 → Goes c t (spread d (token_of p) ∷ []) [] ev ev' (Done p.next (p.start + p.size) out) r
-      → Outcome c t (selections d s ∷ []) (selections d s ∷ []) l at ev out ev' r
-  by_dots e h = begun_by (spread d (token_of p)) (λ z. omega arith) (λ K. set_dots c l d (token_of p) K s e) h
+  pub set_present : (token_of p).kind ≡ 15 → (K : List Sym) → reads c t (opt_selection_set d ∷ K) from ≡ reads c t (selection_set d ∷ K) from
+  set_present e K = run_at c t from p F (opt_selection_set d ∷ K) ∙ rw (opt_some K e) (sym (run_at c t from p F (selection_set d ∷ K)))
 
--- ---- a selection set, after its `{`, which is q, and at its first token, which is p
-module _ (c : Bool) (t : List ℕ) (at l d : ℕ) (q : Peeked) (Q : Front t at q) (k : q.kind ≡ 15) (ev : List ℕ) (out : ℕ) (ev₁ : List ℕ) (o₁ : ℕ)
-    (w : Puts ev out ev₁ o₁ (opens 15 q.start ∷ token_event (token_of q) ∷ [])) (p : Peeked) (F : Front t q.next p) where
-  set_opened : Took c t (selection_set d ∷ []) l at ev out ev₁ (first_selection d q.start ∷ []) q.next (q.start + q.size) o₁
-  set_opened = took_one c t l at q Q (selection_set d ∷ []) (first_selection d q.start ∷ []) _ ev out ev₁ o₁ (λ K. at_set c l d (token_of q) K k) (λ z. omega arith) w
+  -- where one stack gives events and then does what another does
+  pub also_run : (es : List Item) (S S' : List Sym) → step c from.end S (token_of p) ≡ also es (step c from.end S' (token_of p))
+      → reads c t S from ≡ emits es (reads c t S' from)
+  also_run es S S' e =
+      run_at c t from p F S
+      ∙ rw e (moved_also es (step c from.end S' (token_of p)) p.start (λ K'. reads c t K' (behind p)) ∙ ap (emits es) (sym (run_at c t from p F S')))
 
-  pub set_deep : d ≡ 0 → Outcome c t (selection_set d ∷ []) [] l at ev out ev₁ (Stop 7 p.start)
-  set_deep z = then set_opened (stopped refl (stop_one c t (q.start + q.size) q.next p F (first_selection d q.start ∷ []) 7 (λ K. too_deep_lem c (q.start + q.size) d (token_of p) K q.start z)))
+  -- ---- its first selection, which begins at p
+  module _ (s : ℕ) where
+    pub set_deep : {a : Events} → d ≡ 0 → (r : Refused) → number_of r.refusal ≡ 7 → r.place ≡ p.start → Stopped c t (first_selection d s ∷ []) a a from r
+    set_deep z r n q = stop_one c t from p F (first_selection d s ∷ []) r (λ K. rw n (too_deep_lem c from.end d (token_of p) K s z)) q
 
-  pub set_empty : (d ≡ 0 → ⊥) → begins_selection p.kind ≡ false → Outcome c t (selection_set d ∷ []) [] l at ev out ev₁ (Stop 9 p.start)
-  set_empty z b = then set_opened (stopped refl (stop_one c t (q.start + q.size) q.next p F (first_selection d q.start ∷ []) 9 (λ K. none d z K)))
-    where
-      none : (d : ℕ) → (d ≡ 0 → ⊥) → (K : List Sym) → step c (q.start + q.size) (first_selection d q.start ∷ K) (token_of p) ≡ stop 9
-      none zero z K = absurd (z refl)
-      none (suc r) z K = first_none c (q.start + q.size) r q.start (token_of p) K b
+    pub set_empty : {a : Events} → (d ≡ 0 → ⊥) → begins_selection (token_of p).kind ≡ false → (r : Refused) → number_of r.refusal ≡ 9 → r.place ≡ p.start
+        → Stopped c t (first_selection d s ∷ []) a a from r
+    set_empty z b r n q = stop_one c t from p F (first_selection d s ∷ []) r (λ K. rw n (none d z K)) q
+      where
+        none : (d : ℕ) → (d ≡ 0 → ⊥) → (K : List Sym) → step c from.end (first_selection d s ∷ K) (token_of p) ≡ stop 9
+        none zero z K = absurd (z refl)
+        none (suc r) z K = first_none c from.end r s (token_of p) K b
 
-  pub set_then : (d ≡ 0 → ⊥) → begins_selection p.kind ≡ true → (ev₂ : List ℕ) (i o : ℕ) (ev₃ : List ℕ) (r : Step)
-      → Passed c t (selections (d - 1) q.start ∷ []) q.next ev₁ o₁ ev₂ i o → ((l : ℕ) → Outcome c t (selections (d - 1) q.start ∷ []) [] l i ev₂ o ev₃ r)
-      → Outcome c t (selection_set d ∷ []) [] l at ev out ev₃ r
-  set_then z b ev₂ i o ev₃ r g f =
-      then set_opened (same_due (first_selection d q.start ∷ []) (first_run c t (q.start + q.size) q.next d q.start p F z b) (passed_then g f (q.start + q.size)))
+    -- with depth left, it is read as the further ones are
+    pub first_run : (d ≡ 0 → ⊥) → begins_selection (token_of p).kind ≡ true → (K : List Sym) → reads c t (first_selection d s ∷ K) from ≡ reads c t (selections (d - 1) s ∷ K) from
+    first_run z b K = run_at c t from p F (first_selection d s ∷ K) ∙ rw (first d z) (sym (run_at c t from p F (selections (d - 1) s ∷ K)))
+      where
+        first : (d : ℕ) → (d ≡ 0 → ⊥) → step c from.end (first_selection d s ∷ K) (token_of p) ≡ step c from.end (selections (d - 1) s ∷ K) (token_of p)
+        first zero z = absurd (z refl)
+        first (suc r) z = let q : suc r - 1 ≡ r = omega arith in rw q (first_begins c from.end r s (token_of p) K b)
 
--- ---- at a token p of a selection set
-module _ (c : Bool) (t : List ℕ) (l i d s : ℕ) (p : Peeked) (F : Front t i p) where
-  pub set_stop : (p.kind ≡ 17 → ⊥) → begins_selection p.kind ≡ false → (K : List Sym) → run c ((selections d s ∷ []) ++ K) l (rest t i) ≡ refused 9 p.start
-  set_stop b e = stop_one c t l i p F (selections d s ∷ []) 9 (λ K. set_none c l d (token_of p) K s b e)
+    -- ---- at a token p of a selection set
+    pub set_stop : {a : Events} → ((token_of p).kind ≡ 17 → ⊥) → begins_selection (token_of p).kind ≡ false → (r : Refused) → number_of r.refusal ≡ 9 → r.place ≡ p.start
+        → Stopped c t (selections d s ∷ []) a a from r
+    set_stop b e r n q = stop_one c t from p F (selections d s ∷ []) r (λ K. rw n (set_none c from.end d (token_of p) K s b e)) q
 
-  pub set_end : (ev : List ℕ) (o : ℕ) (ev' : List ℕ) (o' : ℕ) → p.kind ≡ 17 → Puts ev o ev' o' (token_event (token_of p) ∷ closes 15 s (end_of (token_of p)) ∷ [])
-      → Took c t (selections d s ∷ []) l i ev o ev' [] p.next (p.start + p.size) o'
-  set_end ev o ev' o' k w = took_one c t l i p F (selections d s ∷ []) [] _ ev o ev' o' (λ K. set_ends c l d (token_of p) K s k) (λ z. omega arith) w
+    pub set_end : {a b : Events} → (token_of p).kind ≡ 17 → Wrote a b (token_event (token_of p) ∷ closes 15 s (end_of (token_of p)) ∷ [])
+        → Took c t (selections d s ∷ []) [] a b from (behind p)
+    set_end k w = took_one c t from p F (selections d s ∷ []) [] (λ K. set_ends c from.end d (token_of p) K s k) (λ z. omega arith) w
 
--- no `{` where a selection set is due
-pub set_missing : (c : Bool) (t : List ℕ) (l i d : ℕ) (p : Peeked) → Front t i p → (p.kind ≡ 15 → ⊥)
-    → (K : List Sym) → run c ((selection_set d ∷ []) ++ K) l (rest t i) ≡ refused 9 p.start
-set_missing c t l i d p F e = stop_one c t l i p F (selection_set d ∷ []) 9 (λ K. no_set_lem c l d (token_of p) K e)
+    -- ---- a selection, whose first token is p
+    begun_by : {a b : Events} {r : Result Reached Refused} (X : Sym) → ((token_of p).kind ≡ 0 → ⊥)
+        → ((K : List Sym) → step c from.end (selections d s ∷ K) (token_of p) ≡ go [] (X ∷ selections d s ∷ K)) → Goes c t (X ∷ []) [] a b (behind p) r
+        → Outcome c t (selections d s ∷ []) (selections d s ∷ []) a b from r
+    begun_by {a} X n m h = took_goes (took_one c t from p F (selections d s ∷ []) (X ∷ selections d s ∷ []) m n (wrote_none a)) (goes_below (selections d s ∷ []) h)
 
--- ---- a selection set, or none
-opt_none : (c : Bool) (l d : ℕ) (K : List Sym) (ts : List Token) → leads 15 ts ≡ false → run c (opt_selection_set d ∷ K) l ts ≡ run c K l ts
-unfolding run step or_selection_set leads
-opt_none c l d K [] e = refl
-opt_none c l d K (t ∷ ts) e = rw e
+    pub by_field : {a b : Events} {r : Result Reached Refused} → is_name (token_of p).kind ≡ true → Goes c t (named d (token_of p) ∷ []) [] a b (behind p) r
+        → Outcome c t (selections d s ∷ []) (selections d s ∷ []) a b from r
+    unfolding is_name
+    by_field e h = begun_by (named d (token_of p)) (λ z. apart (is_name 0) (rw z at e) refl) (λ K. set_name c from.end d (token_of p) K s e) h
 
-opt_some : (c : Bool) (l d : ℕ) (K : List Sym) (ts : List Token) → leads 15 ts ≡ true → run c (opt_selection_set d ∷ K) l ts ≡ run c (selection_set d ∷ K) l ts
-unfolding run step or_selection_set leads
-opt_some c l d K [] e = refl
-opt_some c l d K (t ∷ ts) e = rw e
-
-pub none_follows : (c : Bool) (t : List ℕ) (d : ℕ) (left : List Sym) (tape : List ℕ) (s : Step) → Ready t s → follows 15 t s ≡ false
-    → Goes c t (opt_selection_set d ∷ left) left tape tape s s
-unfolding follows
-none_follows c t d left tape (Done n e o) i f = nothing i (λ K. opt_none c e d (left ++ K) (rest t n) f)
-none_follows c t d left tape (Stop n p) i f = halted refl
-
-pub one_follows : (c : Bool) (t : List ℕ) (d : ℕ) (tape tape' : List ℕ) (s r : Step) → follows 15 t s ≡ true → Goes c t (selection_set d ∷ []) [] tape tape' s r
-    → Goes c t (opt_selection_set d ∷ []) [] tape tape' s r
-unfolding follows
-one_follows c t d tape tape' (Done n e o) r f h = same (opt_selection_set d ∷ []) (λ K. opt_some c e d K (rest t n) f) h
-one_follows c t d tape tape' (Stop n p) r f h = apart false f refl
-
--- what follows is what is in front
-pub follows_front : (t : List ℕ) (k : ℕ) (s : Step) (n e o : ℕ) (p : Peeked) → s ≡ Done n e o → Front t n p → eqb p.kind k ≡ follows k t s
-unfolding follows leads
-follows_front t k s n e o p q F = rw (q, F.first)
-
-pub follows_none : (t : List ℕ) (k : ℕ) (s : Step) (n p : ℕ) → s ≡ Stop n p → false ≡ follows k t s
-unfolding follows
-follows_none t k s n p q = rw q
-
--- ---- a node that closes
-
--- what a node asks that closes where a step stands, and began at a token
-pub closable : {t tape : List ℕ} {at : ℕ} {p : Peeked} (s : Step) (n : ℕ) → Holds t tape → Front t at p → Ready t s → n < 64
-    → (length t < 2 ^ 28) × ((Ready t s) × ((n < 64) × (p.start < 2 ^ 28)))
-closable {t} {tape} {at} {p} s n H F i h = (let q = H.short in omega arith, (i, (h, let w = narrow t tape at p H F in omega arith)))
+    pub by_dots : {a b : Events} {r : Result Reached Refused} → (token_of p).kind ≡ 9 → Goes c t (spread d (token_of p) ∷ []) [] a b (behind p) r
+        → Outcome c t (selections d s ∷ []) (selections d s ∷ []) a b from r
+    by_dots e h = begun_by (spread d (token_of p)) (λ z. omega arith) (λ K. set_dots c from.end d (token_of p) K s e) h

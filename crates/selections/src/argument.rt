@@ -1,116 +1,80 @@
 // Arguments, in round brackets: at least one, and the further ones are a loop.
-ghost use Rattle.std.specs.Prelude.{◌≡◌, true, false, [], ◌∷◌, ℕ};
+ghost use Rattle.std.specs.Prelude.{◌≡◌, false, [], ◌∷◌, ℕ};
 ghost use Rattle.codes.specs.ItemCodes as codes;
-ghost use Rattle.syntax.specs.Token.{is_name};
 ghost use Rattle.syntax.specs.Machine.{opt_arguments, arguments as arguments_due};
-ghost use Rattle.parser.specs.View.{Holds, Front, Seen};
-ghost use Rattle.parser.specs.Promise.{Outcome, Ready, Goes};
+ghost use Rattle.parser.specs.View.{token_of, Front, Seen};
+ghost use Rattle.parser.specs.Promise.{Ready, Outcome, Goes};
 
-use crate::step::{then_close, then_colon, then_value};
-use codes::{item, node, refusal};
-use parser::{Peeked, Step};
+use codes::{Kind, Node, Refusal, Refused};
+use parser::{Events, Name, Peeked, Reached, Tokens};
+use values::token::colon;
+use values::value::value;
 
-// An argument, whose name is the token: the `:` and the value follow.
+// An argument, which begins with its name: the `:` and the value follow.
 pub fn argument(
-    text: &[u8],
-    items: &[u8],
-    token: Peeked,
+    tokens: &Tokens,
+    name: Name,
     depth: usize,
-    events: &mut [u8],
-    out: usize,
-) -> Step
-    requires holds { Holds text.now items.now }
-    requires kind_value { is_name token.kind ≡ true }
-    requires seen { Seen text.now token }
-    ensures { (at l start : ℕ) → Front text.now at token → Outcome false text.now (arguments_due depth start ∷ []) (arguments_due depth start ∷ []) l at events.old out events.new result }
+    events: &mut Events,
+) -> Result<Reached, Refused>
+    requires { Seen tokens.now.text.now name.token }
+    ensures { (from : Reached) (start : ℕ) → Front tokens.now.text.now from.next name.token → Outcome false tokens.now.text.now (arguments_due depth start ∷ []) (arguments_due depth start ∷ []) events.old events.new from result }
 {
-    let opened = parser::put_open(events, out, node::ARGUMENT, token.start);
-    let named = Step::Done {
-        next: token.next,
-        end: token.start + token.size,
-        out: parser::put_leaf(events, opened, node::NAME, token),
-    };
-    let parted = then_colon(text, items, named, events);
-    let valued = then_value(text, items, parted, depth, events);
-    then_close(text, valued, node::ARGUMENT, token.start, events)
+    events.open(Node::Argument, name.token);
+    events.leaf(Node::Name, name.token);
+    let parted = colon(tokens, name.token.reached(), events)?;
+    let valued = value(tokens, false, parted, depth, events)?;
+    events.close(Node::Argument, name.token, valued.end);
+    Ok(valued)
 }
 
 // Arguments, whose `(` is the token.
 fn arguments(
-    text: &[u8],
-    items: &[u8],
+    tokens: &Tokens,
     token: Peeked,
     depth: usize,
-    events: &mut [u8],
-    out: usize,
-) -> Step
-    requires holds { Holds text.now items.now }
-    requires kind_value { token.kind ≡ codes.paren_l }
-    requires seen { Seen text.now token }
-    ensures { (at l : ℕ) → Front text.now at token → Outcome false text.now (opt_arguments depth ∷ []) [] l at events.old out events.new result }
+    events: &mut Events,
+) -> Result<Reached, Refused>
+    requires kind_value { (token_of token).kind ≡ codes.paren_l }
+    requires seen { Seen tokens.now.text.now token }
+    ensures { (from : Reached) → Front tokens.now.text.now from.next token → Outcome false tokens.now.text.now (opt_arguments depth ∷ []) [] events.old events.new from result }
 {
-    let start = token.start;
-    let mut o = values::token::open_with(node::ARGUMENTS, token, events, out);
-    let mut i = token.next;
-    let first = parser::peek_token(text, items, i);
-    if !values::name::is_name(first.kind) {
-        return Step::Stop {
-            number: refusal::NO_SENTENCE,
-            place: first.start,
-        };
+    events.open_with(Node::Arguments, token);
+    let mut at = token.reached();
+    let first = tokens.peek(at.next);
+    if !first.kind.is_name() {
+        return Err(first.refused(Refusal::NoSentence));
     }
+    // Stays: beside the loop of `values::value::list_value`, for the reason there; and the first item is asked apart, since arguments are never none.
     loop {
-        let t = parser::peek_token(text, items, i);
-        let kind = t.kind;
-        if kind == item::R_PAREN {
-            return Step::Done {
-                next: t.next,
-                end: t.start + t.size,
-                out: values::token::close_with(node::ARGUMENTS, start, t, events, o),
-            };
+        let next = tokens.peek(at.next);
+        let ends = next.kind.is(Kind::RParen);
+        if ends {
+            events.close_with(Node::Arguments, token, next);
+            return Ok(next.reached());
         }
-        if !values::name::is_name(kind) {
-            return Step::Stop {
-                number: refusal::NO_SENTENCE,
-                place: t.start,
-            };
-        }
-        match argument(text, items, t, depth, events, o) {
-            Step::Stop { number, place } => {
-                return Step::Stop { number, place };
-            }
-            Step::Done {
-                next,
-                end: _,
-                out: q,
-            } => {
-                i = next;
-                o = q;
-            }
-        }
+        let Some(name) = next.name() else {
+            return Err(next.refused(Refusal::NoSentence));
+        };
+        at = argument(tokens, name, depth, events)?;
     }
 }
 
 // Arguments, or none.
-pub fn then_arguments(
-    text: &[u8],
-    items: &[u8],
-    step: Step,
+// Stays: beside `opt_directives` and `opt_selection_set`: each asks for another kind and goes on otherwise.
+pub fn opt_arguments(
+    tokens: &Tokens,
+    from: Reached,
     depth: usize,
-    events: &mut [u8],
-) -> Step
-    requires holds { Holds text.now items.now }
-    requires ready { Ready text.now step }
-    ensures { Goes false text.now (opt_arguments depth ∷ []) [] events.old events.new step result }
+    events: &mut Events,
+) -> Result<Reached, Refused>
+    requires { Ready tokens.now.text.now from }
+    ensures { Goes false tokens.now.text.now (opt_arguments depth ∷ []) [] events.old events.new from result }
 {
-    match step {
-        Step::Stop { number, place } => Step::Stop { number, place },
-        Step::Done { next, end, out } => {
-            let token = parser::peek_token(text, items, next);
-            if token.kind != item::L_PAREN {
-                return Step::Done { next, end, out };
-            }
-            arguments(text, items, token, depth, events, out)
-        }
+    let token = tokens.peek(from.next);
+    let begins = token.kind.is(Kind::LParen);
+    if !begins {
+        return Ok(from);
     }
+    arguments(tokens, token, depth, events)
 }

@@ -1,125 +1,98 @@
 // Fragment spreads and inline fragments: what follows a `...`.
-ghost use Rattle.std.specs.Prelude.{◌≡◌, Bool, true, false, [], ◌∷◌, ◌++◌, ℕ, ◌+◌, ◌^◌, ◌<◌};
+ghost use Rattle.std.specs.Prelude.{◌≡◌, Bool, true, false, [], ◌∷◌, ℕ};
 ghost use Rattle.codes.specs.EventCodes as nodes;
 ghost use Rattle.codes.specs.ItemCodes as codes;
-ghost use Rattle.syntax.specs.Token.{word_on, is_fragment_name, end_of, opens, closes, name_events, token_event};
-ghost use Rattle.syntax.specs.Machine.{spread, named_type, opt_directives, selection_set, close};
-ghost use Rattle.parser.specs.declared.Step.TheVariants.{Done};
-ghost use Rattle.parser.specs.View.{Holds, Front, Seen, token_of};
-ghost use Rattle.parser.specs.Events.{Puts};
+ghost use Rattle.syntax.specs.Token.{word_on, is_fragment_name, opens, token_event};
+ghost use Rattle.syntax.specs.Machine.{spread as spread_due, named_type, opt_directives, selection_set, close};
+ghost use Rattle.parser.specs.Kinds.{number_of};
+ghost use Rattle.parser.specs.View.{token_of, behind, Front, Seen};
 ghost use Rattle.parser.specs.Promise.{Goes, Begun};
 
-use crate::directive::then_directives;
-use crate::selection::then_selection_set;
-use crate::step::then_close;
-use codes::node;
-use parser::{Peeked, Step};
+use crate::directive::opt_directives;
+use crate::selection::selection_set;
+use codes::{Kind, Node, Refused};
+use parser::{Events, Peeked, Reached, TokenKind, Tokens, Word};
+use typerefs::ty::named_type;
+
+// A `...`, and the token after it.
+#[derive(Clone, Copy)]
+pub struct Spread {
+    pub dots: Peeked,
+    pub next: Peeked,
+    ghost is: { (token_of dots).kind ≡ codes.dots },
+}
 
 // Is it a Name that a FragmentName may be?
-pub fn is_fragment_name(kind: u8) -> bool
-    ensures { result ≡ is_fragment_name kind }
+pub fn is_fragment_name(kind: TokenKind) -> bool
+    ensures { result ≡ is_fragment_name (number_of kind) }
 {
-    if kind == codes::item::NAME {
-        return true;
+    match kind {
+        TokenKind::Word(word) => word != Word::On,
+        _ => kind.is(Kind::Name),
     }
-    base::within(parser::TRUE, parser::NULL, kind)
 }
 
-// A FRAGMENT_NAME around a NAME.
-fn fragment_name(token: Peeked, events: &mut [u8], out: usize) -> usize
-    requires kind_bound { token.kind < 26 }
-    requires size_bound { token.start + token.size < 2 ^ 28 }
-    ensures { Puts events.old out events.new result (opens nodes.fragment_name token.start ∷ (name_events (token_of token) ++ (closes nodes.fragment_name token.start (end_of (token_of token)) ∷ []))) }
-{
-    parser::put_named(events, out, node::FRAGMENT_NAME, token)
-}
-
-// A fragment spread, whose `...` is `dots` and whose name is the token.
+// A fragment spread, whose name follows the `...`.
 pub fn fragment_spread(
-    text: &[u8],
-    items: &[u8],
-    dots: Peeked,
-    token: Peeked,
+    tokens: &Tokens,
+    spread: Spread,
     depth: usize,
-    events: &mut [u8],
-    out: usize,
-) -> Step
-    requires holds { Holds text.now items.now }
-    requires kind_value { dots.kind ≡ codes.dots }
-    requires seen { Seen text.now dots }
-    requires kind_value_2 { is_fragment_name token.kind ≡ true }
-    requires front { Front text.now dots.next token }
-    ensures { Goes false text.now (spread depth (token_of dots) ∷ []) [] events.old events.new (Done dots.next (dots.start + dots.size) out) result }
+    events: &mut Events,
+) -> Result<Reached, Refused>
+    requires seen { Seen tokens.now.text.now spread.dots }
+    requires kind_value { is_fragment_name (token_of spread.next).kind ≡ true }
+    requires front { Front tokens.now.text.now spread.dots.next spread.next }
+    ensures { Goes false tokens.now.text.now (spread_due depth (token_of spread.dots) ∷ []) [] events.old events.new (behind spread.dots) result }
 {
-    let opened = values::token::open_with(node::FRAGMENT_SPREAD, dots, events, out);
-    let named = Step::Done {
-        next: token.next,
-        end: token.start + token.size,
-        out: fragment_name(token, events, opened),
-    };
-    let directed = then_directives(text, items, named, depth, events);
-    then_close(text, directed, node::FRAGMENT_SPREAD, dots.start, events)
+    events.open_with(Node::FragmentSpread, spread.dots);
+    events.named(Node::FragmentName, spread.next);
+    let directed = opt_directives(tokens, spread.next.reached(), depth, events)?;
+    events.close(Node::FragmentSpread, spread.dots, directed.end);
+    Ok(directed)
 }
 
 // A type condition, whose `on` is the token: a NAMED_TYPE follows.
-fn type_condition(text: &[u8], items: &[u8], token: Peeked, events: &mut [u8], out: usize) -> Step
-    requires holds { Holds text.now items.now }
-    requires kind_value { token.kind ≡ word_on }
-    requires seen { Seen text.now token }
-    ensures { (c : Bool) → Begun c text.now (opens nodes.type_condition token.start ∷ token_event (token_of token) ∷ []) (named_type ∷ close nodes.type_condition token.start ∷ []) [] token.next (token.start + token.size) events.old out events.new result }
+fn type_condition(tokens: &Tokens, token: Peeked, events: &mut Events) -> Result<Reached, Refused>
+    requires kind_value { (token_of token).kind ≡ word_on }
+    requires seen { Seen tokens.now.text.now token }
+    ensures { (c : Bool) → Begun c tokens.now.text.now (opens nodes.type_condition token.start ∷ token_event (token_of token) ∷ []) (named_type ∷ close nodes.type_condition token.start ∷ []) [] events.old events.new (behind token) result }
 {
-    let opened = values::token::open_with(node::TYPE_CONDITION, token, events, out);
-    let named = typerefs::ty::named_type(text, items, token.next, events, opened);
-    then_close(text, named, node::TYPE_CONDITION, token.start, events)
+    events.open_with(Node::TypeCondition, token);
+    let named = named_type(tokens, token.reached(), events)?;
+    events.close(Node::TypeCondition, token, named.end);
+    Ok(named)
 }
 
-// The inline fragment opens, whose `...` is `dots`: with a type condition if the token after it is `on`.
-fn fragment_head(
-    text: &[u8],
-    items: &[u8],
-    dots: Peeked,
-    token: Peeked,
-    events: &mut [u8],
-    out: usize,
-) -> Step
-    requires holds { Holds text.now items.now }
-    requires kind_value { dots.kind ≡ codes.dots }
-    requires seen { Seen text.now dots }
-    requires kind_value_2 { is_fragment_name token.kind ≡ false }
-    requires front { Front text.now dots.next token }
-    ensures { (c : Bool) (depth : ℕ) → Goes c text.now (spread depth (token_of dots) ∷ []) (opt_directives depth ∷ selection_set depth ∷ close nodes.inline_fragment dots.start ∷ []) events.old events.new (Done dots.next (dots.start + dots.size) out) result }
+// The inline fragment opens: with a type condition if the token after the `...` is `on`.
+fn fragment_head(tokens: &Tokens, spread: Spread, events: &mut Events) -> Result<Reached, Refused>
+    requires seen { Seen tokens.now.text.now spread.dots }
+    requires kind_value { is_fragment_name (token_of spread.next).kind ≡ false }
+    requires front { Front tokens.now.text.now spread.dots.next spread.next }
+    ensures { (c : Bool) (depth : ℕ) → Goes c tokens.now.text.now (spread_due depth (token_of spread.dots) ∷ []) (opt_directives depth ∷ selection_set depth ∷ close nodes.inline_fragment spread.dots.start ∷ []) events.old events.new (behind spread.dots) result }
 {
-    let opened = values::token::open_with(node::INLINE_FRAGMENT, dots, events, out);
-    if token.kind == parser::ON {
-        return type_condition(text, items, token, events, opened);
+    events.open_with(Node::InlineFragment, spread.dots);
+    if spread.next.kind.is_on() {
+        return type_condition(tokens, spread.next, events);
     }
-    Step::Done {
-        next: dots.next,
-        end: dots.start + dots.size,
-        out: opened,
-    }
+    Ok(spread.dots.reached())
 }
 
-// An inline fragment, whose `...` is `dots`; the token follows it, and is no fragment's name.
+// An inline fragment: what follows the `...` is no fragment's name.
 #[cycle(selections)]
 pub fn inline_fragment(
-    text: &[u8],
-    items: &[u8],
-    dots: Peeked,
-    token: Peeked,
+    tokens: &Tokens,
+    spread: Spread,
     depth: usize,
-    events: &mut [u8],
-    out: usize,
-) -> Step
-    requires holds { Holds text.now items.now }
-    requires kind_value { dots.kind ≡ codes.dots }
-    requires seen { Seen text.now dots }
-    requires kind_value_2 { is_fragment_name token.kind ≡ false }
-    requires front { Front text.now dots.next token }
-    ensures { Goes false text.now (spread depth (token_of dots) ∷ []) [] events.old events.new (Done dots.next (dots.start + dots.size) out) result }
+    events: &mut Events,
+) -> Result<Reached, Refused>
+    requires seen { Seen tokens.now.text.now spread.dots }
+    requires kind_value { is_fragment_name (token_of spread.next).kind ≡ false }
+    requires front { Front tokens.now.text.now spread.dots.next spread.next }
+    ensures { Goes false tokens.now.text.now (spread_due depth (token_of spread.dots) ∷ []) [] events.old events.new (behind spread.dots) result }
 {
-    let head = fragment_head(text, items, dots, token, events, out);
-    let directed = then_directives(text, items, head, depth, events);
-    let set = then_selection_set(text, items, directed, depth, events);
-    then_close(text, set, node::INLINE_FRAGMENT, dots.start, events)
+    let head = fragment_head(tokens, spread, events)?;
+    let directed = opt_directives(tokens, head, depth, events)?;
+    let set = selection_set(tokens, directed, depth, events)?;
+    events.close(Node::InlineFragment, spread.dots, set.end);
+    Ok(set)
 }

@@ -6,6 +6,5 @@ mod directive;
 mod field;
 mod fragment;
 mod selection;
-mod step;
 
-pub use selection::then_selection_set;
+pub use selection::selection_set;

@@ -5,14 +5,53 @@
 // NAME is what a page calls the text.
 ghost use Rattle.std.specs.Prelude.{◌≤◌};
 
+use lists::{Form, Style};
 use std::env::Env;
 
-#[repr(C)]
-#[derive(Clone, Copy)]
+// Stays: beside `replay`'s and the grammar's. Each program takes entries that the other has not (a page; the C interface), by numbers of its own.
+#[derive(Clone, Copy, Debug, PartialEq, Eq)]
+pub enum Entry {
+    Items,
+    Value,
+    Constant,
+    Type,
+    Selection,
+    Part,
+    Page,
+}
+
+// An argument that is no entry.
+#[derive(Clone, Copy, Debug, PartialEq, Eq)]
+pub struct UnknownEntry;
+
+impl TryFrom<u8> for Entry {
+    type Error = UnknownEntry;
+
+    fn try_from(digit: u8) -> Result<Entry, UnknownEntry> {
+        match digit {
+            b'0' => Ok(Entry::Items),
+            b'1' => Ok(Entry::Value),
+            b'2' => Ok(Entry::Constant),
+            b'3' => Ok(Entry::Type),
+            b'4' => Ok(Entry::Selection),
+            b'5' => Ok(Entry::Part),
+            b'6' => Ok(Entry::Page),
+            _ => Err(UnknownEntry),
+        }
+    }
+}
+
+impl Entry {
+    // Does the entry take a text of up to 16,777,216 bytes? The others need both tapes whole.
+    pub fn takes_large(self) -> bool {
+        matches!(self, Entry::Items | Entry::Part)
+    }
+}
+
+#[derive(Clone, Copy, Debug)]
 pub struct Asked {
-    pub entry: u8,
-    pub words: bool,
-    pub colour: bool,
+    pub entry: Entry,
+    pub style: Style,
     pub tells: bool,
     pub roomy: bool,
     pub long: bool,
@@ -21,34 +60,18 @@ pub struct Asked {
 }
 
 fn digit(b: u8) -> usize {
-    if b < 48 {
-        return 0;
+    match b {
+        b'0'..=b'9' => (b - b'0') as usize,
+        _ => 0,
     }
-    if b > 57 {
-        return 0;
-    }
-    (b - 48) as usize
 }
 
-// One digit more. A number that is too large to hold stays the largest: no text has so many items or bytes.
-fn append(v: usize, d: usize) -> usize {
-    if v > 1844674407370955160 {
-        return usize::MAX;
-    }
-    if d > 9 {
-        return usize::MAX;
-    }
-    v * 10 + d
-}
-
+// A number that is too large to hold is larger than the items or bytes of any text, as the largest is.
 fn number(word: &[u8]) -> usize {
-    let mut v = 0;
-    let mut i = 0;
-    while i < word.len() {
-        v = append(v, digit(word[i]));
-        i += 1;
-    }
-    v
+    word.iter().fold(
+        0,
+        |v: usize, b| v.saturating_mul(10).saturating_add(digit(*b)),
+    )
 }
 
 // A number that is missing, or too long for any use, is the largest.
@@ -61,14 +84,22 @@ fn number_argument<R: Env>(rt: &R, i: usize) -> usize {
 }
 
 fn flag(word: &[u8], i: usize) -> bool {
-    base::byte_at(word, i) == b'1'
+    word.get(i) == Some(&b'1')
 }
 
+// A selection set is asked for where the entry is none of the others.
 fn from_words(entry: &[u8], flags: &[u8], limit: usize, depth: usize) -> Asked {
+    let form = if flag(flags, 0) {
+        Form::Word
+    } else {
+        Form::Row
+    };
     Asked {
-        entry: base::byte_at(entry, 0),
-        words: flag(flags, 0),
-        colour: flag(flags, 1),
+        entry: Entry::try_from(base::byte_at(entry, 0)).unwrap_or(Entry::Selection),
+        style: Style {
+            form,
+            colour: flag(flags, 1),
+        },
         tells: flag(flags, 2),
         roomy: flag(flags, 3),
         long: flag(flags, 4),
@@ -81,10 +112,7 @@ fn from_words(entry: &[u8], flags: &[u8], limit: usize, depth: usize) -> Asked {
 fn word_length<R: Env>(rt: &R, i: usize, word: &mut [u8; 8]) -> usize
     ensures { result ≤ 8 }
 {
-    match rt.arg(i, word) {
-        Ok(n) => n,
-        Err(_) => 0,
-    }
+    rt.arg(i, word).unwrap_or(0)
 }
 
 pub fn arguments<R: Env>(rt: &R) -> Asked {

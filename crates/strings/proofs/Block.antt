@@ -1,17 +1,18 @@
 -- Block strings as the code reads them: `"""` and `\"""` at a place, and the loop that goes on from place to place. Assumes nothing.
-use mathlib.Core.Path.{◌≡◌, refl}
+use mathlib.Core.Path.{◌≡◌, refl, ◌∙◌}
 use mathlib.Core.Bool.{Bool, true, false, ◌&&◌}
 use mathlib.Core.List.{List, [], ◌∷◌}
 use Prim.Native.Nat.{ℕ, zero, suc, ◌+◌, ◌-◌, ◌≤◌, ◌<◌}
 use native.Mathlib.Nat.{add-zero, zero-add, suc-add, add_assoc, not-suc-le-zero, le_of_suc-le-suc}
 use native.Mathlib.Numerals.{add-one, one-add}
 use native.Mathlib.Omega.{arith}
+use borrow.Author.Tests.{eqb-true, eq-eqb, ne_eqb}
 use lib.Dec.{eqb}
 use lib.ListN.{length, get_or, drop, length-drop, drop_of_length-le}
 use lib.Seq.{drop-cons, drop-drop, get_or-drop}
 use Rattle.base.specs.Text.{pick}
 use Rattle.base.specs.Item.{Lexeme, lexeme}
-use Rattle.base.proofs.Tests.{refuted, and_true}
+use Rattle.base.proofs.Tests.{apart, by, and_true}
 use Rattle.rules.specs.Faults.{Scan, quotes, escaped, block}
 use Rattle.rules.proofs.BlockExact.{quotes_true}
 use Rattle.strings.specs.String.{block_of}
@@ -23,19 +24,15 @@ quotes_long (x ∷ []) e = let q = (quotes_true (x ∷ []) e).1 in absurd (omega
 quotes_long (x ∷ y ∷ []) e = let q = (quotes_true (x ∷ y ∷ []) e).2 in absurd (omega arith)
 quotes_long (x ∷ y ∷ z ∷ t) e = omega arith
 
--- fewer than three bytes from i on hold none
-pub quotes_short : (s : List ℕ) (i : ℕ) → length s - i < 3 → quotes (drop i s) ≡ false
-quotes_short s i h = refuted (quotes (drop i s)) (λ e. let l = simp length-drop at (quotes_long (drop i s) e) in omega arith)
-
--- `"""` at i, by its bytes
-pub quotes_by : (s : List ℕ) (i : ℕ) → quotes (drop i s) ≡ eqb (get_or s i 0) 34 && (eqb (get_or s (i + 1) 0) 34 && eqb (get_or s (i + 2) 0) 34)
+-- where no quote stands at i, no `"""` does
+quotes_off : (s : List ℕ) (i : ℕ) → (get_or s i 0 ≡ 34 → ⊥) → quotes (drop i s) ≡ false
 unfolding quotes
-quotes_by s i = simp (get_or-drop, add-zero)
+quotes_off s i n = simp (get_or-drop, add-zero) (rw (ne_eqb _ 34 n))
 
 -- `\"""` at i, by its first byte and what follows that
-pub escaped_by : (s : List ℕ) (i : ℕ) → i < length s → escaped (drop i s) ≡ pick (eqb (get_or s i 0) 92 && quotes (drop (i + 1) s)) 3 0
+escaped_by : (s : List ℕ) (i : ℕ) → i < length s → escaped (drop i s) ≡ pick (eqb (get_or s i 0) 92 && quotes (drop (i + 1) s)) 3 0
 unfolding escaped
-escaped_by s i h = rw (add-one, drop-cons s i 0)
+escaped_by s i h = rw (add-one, drop-cons s i 0 h)
 
 -- a `\"""` ends within the text
 escaped_in : (b : ℕ) (bs : List ℕ) → escaped (b ∷ bs) ≤ length bs
@@ -82,18 +79,31 @@ block_closes i t h e = rw (shut (drop i t) (simp length-drop (omega arith)) e)
     shut [] h e = absurd (omega arith)
     shut (b ∷ bs) h e = rw e
 
--- no `"""` at i: one turn of the loop
-pub block_turn : (i : ℕ) (t : List ℕ) → i < length t → quotes (drop i t) ≡ false → block_from i t ≡ block_from (i + (1 + escaped (drop i t))) t
+-- no `"""` at i: one turn of the loop, which stays within the text
+block_turn : (i : ℕ) (t : List ℕ) → i < length t → quotes (drop i t) ≡ false → block_from i t ≡ block_from (i + (1 + escaped (drop i t))) t
 block_turn i t h e =
     rw (add_assoc, ← drop-drop, block_step (drop i t) (simp length-drop (omega arith)) e)
 
--- a turn stays within the text
-pub block_within : (i : ℕ) (t : List ℕ) → i < length t → i + (1 + escaped (drop i t)) ≤ length t
+block_within : (i : ℕ) (t : List ℕ) → i < length t → i + (1 + escaped (drop i t)) ≤ length t
 block_within i t h = go (drop i t) (length-drop i t)
   where
     go : (s : List ℕ) → length s ≡ length t - i → i + (1 + escaped s) ≤ length t
     go [] l = absurd (omega arith)
     go (b ∷ bs) l = let w = escaped_in b bs in omega arith
+
+-- over a `\"""` at i
+pub block_over : (i : ℕ) (t : List ℕ) → i < length t → get_or t i 0 ≡ 92 → quotes (drop (i + 1) t) ≡ true → (i + 4 ≤ length t) × (block_from i t ≡ block_from (i + 4) t)
+block_over i t h e q =
+    let four = rw (e, q) at (escaped_by t i h) in
+    (rw four at (block_within i t h), rw four at (block_turn i t h (quotes_off t i (λ z. omega arith))))
+
+-- on by one byte, where neither stands at i
+pub block_on : (i : ℕ) (t : List ℕ) → i < length t → (get_or t i 0 ≡ 34 → quotes (drop i t) ≡ false) → (get_or t i 0 ≡ 92 → quotes (drop (i + 1) t) ≡ false)
+    → block_from i t ≡ block_from (i + 1) t
+block_on i t h n m = rw none at (block_turn i t h (by (eqb (get_or t i 0) 34) (λ e. n (eqb-true _ 34 e)) (λ e. quotes_off t i (λ z. apart _ (eq-eqb _ 34 z) e))))
+  where
+    none : escaped (drop i t) ≡ 0
+    none = escaped_by t i h ∙ by (eqb (get_or t i 0) 92) (λ e. rw (e, m (eqb-true _ 92 e))) (λ e. rw e)
 
 -- the text ends
 pub block_ends : (i : ℕ) (t : List ℕ) → length t ≤ i → block_from i t ≡ lexeme 76 i

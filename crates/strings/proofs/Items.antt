@@ -11,7 +11,7 @@ use lib.Dec.{eqb}
 use lib.ListN.{length, get_or, drop}
 use Rattle.base.specs.Text.{pick}
 use Rattle.base.proofs.Tests.{by}
-use Rattle.codes.specs.Errors as errors
+use Rattle.std.specs.Prelude.{None}
 use Rattle.rules.specs.Classes.{digit}
 use Rattle.rules.specs.Faults.{opened, scan, quotes, block, quoted_scan, string_scan}
 use Rattle.rules.specs.StringAt.{last, code_of, string_at}
@@ -21,8 +21,8 @@ use Rattle.rules.proofs.Tokens.{quote_first}
 use Rattle.rules.proofs.BlockExact.{block_faults}
 use Rattle.rules.proofs.StringSizes.{scan_fits, string_fits}
 use Rattle.rules.proofs.Register.{register_code}
-use Rattle.strings.specs.String.{done_code, further, begun, quoted_from, block_of}
-use Rattle.strings.proofs.Simulation.{opened_agrees}
+use Rattle.strings.specs.String.{further, begun, quoted_from, block_of}
+use Rattle.strings.proofs.Simulation.{code_by, register, opened_agrees}
 
 -- a text that begins with a quote is read as a string
 quote_item : (s : List ℕ) → item_at (34 ∷ s) ≡ string_at (34 ∷ s)
@@ -31,8 +31,8 @@ quote_item s = by (eqb (string_at (34 ∷ s)).code 19) (λ e. rw (quote_first s,
 
 -- the code of a string by its last fault alone
 string_code : (s : List ℕ)
-    → code_of (string_scan (34 ∷ s)) ≡ pick (string_scan (34 ∷ s)).closed (done_code (last 0 (string_scan (34 ∷ s)).faults)) (pick (eqb (string_scan (34 ∷ s)).size 1) 75 76)
-unfolding code_of done_code
+    → code_of (string_scan (34 ∷ s)) ≡ pick (string_scan (34 ∷ s)).closed (code_by (last 0 (string_scan (34 ∷ s)).faults)) (pick (eqb (string_scan (34 ∷ s)).size 1) 75 76)
+unfolding code_of code_by
 string_code s = rw (register_code (string_scan (34 ∷ s)).faults (string_fits 34 s).known)
 
 -- a quoted string
@@ -46,11 +46,11 @@ module _ (s : List ℕ) (e : quotes (34 ∷ s) ≡ false) where
   cut_off true d m h = refl
   cut_off false d m h = rw (h refl, one-add)
 
-  quoted_item : further 1 (quoted_from begun errors.none s) ≡ item_at (34 ∷ s)
-  unfolding string_at
+  quoted_item : further 1 (quoted_from begun None s) ≡ item_at (34 ∷ s)
+  unfolding string_at register
   quoted_item =
-      let a = opened_agrees s 0 in
-      let code : (quoted_from begun errors.none s).code ≡ code_of (quoted_scan (34 ∷ s)) =
+      let a = opened_agrees s None in
+      let code : (quoted_from begun None s).code ≡ code_of (quoted_scan (34 ∷ s)) =
       a.coded ∙ cut_off (scan opened s).closed _ (scan opened s).size (scan_fits s opened).to_the_end ∙ sym (rw scanned at (string_code s)) in
       rw (quote_item s, scanned, code, a.covers, one-add)
 
@@ -61,7 +61,7 @@ block_item s e =
     rw (quote_item s, e, block_faults (drop 3 (34 ∷ s)) 0, ne_eqb (suc (suc (suc (block 0 (drop 3 (34 ∷ s))).size))) 1 (λ y. omega arith))
 
 -- the same of any text whose first byte is a quote
-pub quoted_at : (t : List ℕ) → 0 < length t → get_or t 0 0 ≡ 34 → quotes t ≡ false → further 1 (quoted_from begun errors.none (drop 1 t)) ≡ item_at t
+pub quoted_at : (t : List ℕ) → 0 < length t → get_or t 0 0 ≡ 34 → quotes t ≡ false → further 1 (quoted_from begun None (drop 1 t)) ≡ item_at t
 quoted_at [] p q e = absurd (not-suc-le-zero p)
 quoted_at (b ∷ s) p q e = rw q (quoted_item s (rw q at e))
 

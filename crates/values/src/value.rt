@@ -1,270 +1,187 @@
 // Values and constant values. Items of a list and fields of an object are loops; only depth recurses.
-ghost use Rattle.std.specs.Prelude.{◌≡◌, Bool, true, [], ◌∷◌, ◌++◌, ℕ, ◌+◌, ◌^◌, ◌<◌, length};
+ghost use Rattle.std.specs.Prelude.{◌≡◌, Bool, true, [], ◌∷◌, ℕ};
 ghost use Rattle.codes.specs.EventCodes as nodes;
 ghost use Rattle.codes.specs.ItemCodes as codes;
-ghost use Rattle.rules.specs.Items.{items as items_of};
-ghost use Rattle.syntax.specs.Token.{is_name, is_enum, end_of, opens, closes, name_events};
+ghost use Rattle.codes.specs.KindNumbers.{number_of as kind_number};
 ghost use Rattle.syntax.specs.Machine.{value as value_due, deeper, fields, close};
-ghost use Rattle.parser.specs.View.{Holds, Front, Seen, token_of};
-ghost use Rattle.parser.specs.Events.{Puts};
-ghost use Rattle.parser.specs.Promise.{Outcome};
-ghost use Rattle.values.specs.Scalars.{scalar_node};
+ghost use Rattle.parser.specs.declared.token.TokenKind.TheVariants as token_kind;
+ghost use Rattle.parser.specs.Kinds.{number_of};
+ghost use Rattle.parser.specs.View.{token_of, Front, Seen};
+ghost use Rattle.parser.specs.Promise.{Ready, Outcome};
+ghost use Rattle.values.specs.Scalars.{scalar_node, NodeOf};
 
-use crate::name::is_name;
-use crate::token::{close_with, colon, open_with};
+use crate::token::colon;
 use crate::variable::variable;
-use codes::{item, node, refusal};
-use parser::{Peeked, Step};
+use codes::{Kind, Node, Refusal, Refused};
+use parser::{Events, Name, Peeked, Reached, TokenKind, Tokens, Word};
 
-// The node of a value that is one token; 0 if it is none.
-fn scalar_node(kind: u8) -> u8
-    ensures { result ≡ scalar_node kind }
+// The node of a value that is a token of this kind, if it is one.
+fn literal_node(kind: Kind) -> Option<Node>
+    ensures { NodeOf (scalar_node (kind_number kind)) result }
 {
     match kind {
-        item::INT => node::INT_VALUE,
-        item::FLOAT => node::FLOAT_VALUE,
-        item::STRING_VALUE => node::STRING_VALUE,
-        parser::TRUE => node::BOOLEAN_VALUE,
-        parser::FALSE => node::BOOLEAN_VALUE,
-        parser::NULL => node::NULL_VALUE,
-        _ => 0,
+        Kind::Int => Some(Node::IntValue),
+        Kind::Float => Some(Node::FloatValue),
+        Kind::StringValue => Some(Node::StringValue),
+        _ => None,
     }
 }
 
-// Is it a Name that an EnumValue may be?
-fn is_enum(kind: u8) -> bool
-    ensures { result ≡ is_enum kind }
+// The same of a word.
+fn word_node(word: Word) -> Option<Node>
+    ensures { NodeOf (scalar_node (number_of (token_kind.Word word))) result }
 {
-    if kind == item::NAME {
-        return true;
+    match word {
+        Word::True => Some(Node::BooleanValue),
+        Word::False => Some(Node::BooleanValue),
+        Word::Null => Some(Node::NullValue),
+        Word::On => None,
     }
-    kind == parser::ON
 }
 
-// An ENUM_VALUE around a NAME.
-fn enum_value(token: Peeked, events: &mut [u8], out: usize) -> usize
-    requires kind_bound { token.kind < 26 }
-    requires size_bound { token.start + token.size < 2 ^ 28 }
-    ensures { Puts events.old out events.new result (opens nodes.enum_value token.start ∷ (name_events (token_of token) ++ (closes nodes.enum_value token.start (end_of (token_of token)) ∷ []))) }
+// The node of a value that is one token, if it is one.
+fn scalar_node(kind: TokenKind) -> Option<Node>
+    ensures { NodeOf (scalar_node (number_of kind)) result }
 {
-    parser::put_named(events, out, node::ENUM_VALUE, token)
+    match kind {
+        TokenKind::Kind(kind) => literal_node(kind),
+        TokenKind::Word(word) => word_node(word),
+        TokenKind::Error(_) => None,
+    }
 }
 
 // A value is due, with so much depth left; only a constant may stand there if `constant`.
 #[cycle(values)]
 pub fn value(
-    text: &[u8],
-    items: &[u8],
+    tokens: &Tokens,
     constant: bool,
-    at: usize,
+    from: Reached,
     depth: usize,
-    events: &mut [u8],
-    out: usize,
-) -> Step
-    requires holds { Holds text.now items.now }
-    requires at_in_bounds { at < length (items_of text.now) }
-    ensures { (l : ℕ) → Outcome constant text.now (value_due depth ∷ []) [] l at events.old out events.new result }
+    events: &mut Events,
+) -> Result<Reached, Refused>
+    requires { Ready tokens.now.text.now from }
+    ensures { Outcome constant tokens.now.text.now (value_due depth ∷ []) [] events.old events.new from result }
 {
-    let token = parser::peek_token(text, items, at);
-    let kind = token.kind;
-    let node = scalar_node(kind);
-    if node != 0 {
-        return Step::Done {
-            next: token.next,
-            end: token.start + token.size,
-            out: parser::put_leaf(events, out, node, token),
-        };
+    let token = tokens.peek(from.next);
+    if let Some(node) = scalar_node(token.kind) {
+        events.leaf(node, token);
+        return Ok(token.reached());
     }
-    if is_enum(kind) {
-        return Step::Done {
-            next: token.next,
-            end: token.start + token.size,
-            out: enum_value(token, events, out),
-        };
+    if token.kind.is_enum() {
+        events.named(Node::EnumValue, token);
+        return Ok(token.reached());
     }
-    if kind == item::L_BRACKET {
-        return list_value(text, items, constant, token, depth, events, out);
+    let is_list = token.kind.is(Kind::LBracket);
+    if is_list {
+        return list_value(tokens, constant, token, depth, events);
     }
-    if kind == item::L_CURLY {
-        return object_value(text, items, constant, token, depth, events, out);
+    let is_object = token.kind.is(Kind::LCurly);
+    if is_object {
+        return object_value(tokens, constant, token, depth, events);
     }
-    if kind != item::DOLLAR {
-        return Step::Stop {
-            number: refusal::NO_SENTENCE,
-            place: token.start,
-        };
+    let is_variable = token.kind.is(Kind::Dollar);
+    if !is_variable {
+        return Err(token.refused(Refusal::NoSentence));
     }
     if constant {
-        return Step::Stop {
-            number: refusal::DOLLAR_IN_CONSTANT,
-            place: token.start,
-        };
+        return Err(token.refused(Refusal::DollarInConstant));
     }
-    variable(text, items, token, events, out)
+    variable(tokens, token, events)
 }
 
 // A list value, whose `[` is the token: its items are a loop.
 #[cycle(values)]
 fn list_value(
-    text: &[u8],
-    items: &[u8],
+    tokens: &Tokens,
     constant: bool,
     token: Peeked,
     depth: usize,
-    events: &mut [u8],
-    out: usize,
-) -> Step
-    requires holds { Holds text.now items.now }
-    requires kind_value { token.kind ≡ codes.bracket_l }
-    requires seen { Seen text.now token }
-    ensures { (at l : ℕ) → Front text.now at token → Outcome constant text.now (value_due depth ∷ []) [] l at events.old out events.new result }
+    events: &mut Events,
+) -> Result<Reached, Refused>
+    requires kind_value { (token_of token).kind ≡ codes.bracket_l }
+    requires seen { Seen tokens.now.text.now token }
+    ensures { (from : Reached) → Front tokens.now.text.now from.next token → Outcome constant tokens.now.text.now (value_due depth ∷ []) [] events.old events.new from result }
 {
-    let start = token.start;
-    let mut o = open_with(node::LIST_VALUE, token, events, out);
-    let mut i = token.next;
+    events.open_with(Node::ListValue, token);
+    let mut at = token.reached();
+    // Stays: a loop beside those of object values, arguments, directives and selections (a rule of the project: siblings are loops). Each has its own
+    // end, item, refusals and symbol of the definition; one loop over closures would take all four, and a lent `events` in two of them.
     loop {
-        let t = parser::peek_token(text, items, i);
-        let kind = t.kind;
-        if kind == item::R_BRACKET {
-            return Step::Done {
-                next: t.next,
-                end: t.start + t.size,
-                out: close_with(node::LIST_VALUE, start, t, events, o),
-            };
+        let next = tokens.peek(at.next);
+        let ends = next.kind.is(Kind::RBracket);
+        if ends {
+            events.close_with(Node::ListValue, token, next);
+            return Ok(next.reached());
         }
-        if kind == item::EOF {
-            return Step::Stop {
-                number: refusal::NO_SENTENCE,
-                place: t.start,
-            };
+        let is_cut = next.kind.is(Kind::Eof);
+        if is_cut {
+            return Err(next.refused(Refusal::NoSentence));
         }
         if depth == 0 {
-            return Step::Stop {
-                number: refusal::TOO_DEEP,
-                place: t.start,
-            };
+            return Err(next.refused(Refusal::TooDeep));
         }
-        match value(text, items, constant, i, depth - 1, events, o) {
-            Step::Stop { number, place } => {
-                return Step::Stop { number, place };
-            }
-            Step::Done {
-                next,
-                end: _,
-                out: q,
-            } => {
-                i = next;
-                o = q;
-            }
-        }
+        at = value(tokens, constant, at, depth - 1, events)?;
     }
 }
 
-// An object field's name, which is the token, and its `:`.
-fn field_name(text: &[u8], items: &[u8], token: Peeked, events: &mut [u8], out: usize) -> Step
-    requires holds { Holds text.now items.now }
-    requires kind_value { is_name token.kind ≡ true }
-    requires seen { Seen text.now token }
-    ensures { (c : Bool) (at l depth start : ℕ) → Front text.now at token → Outcome c text.now (fields depth start ∷ []) (deeper depth ∷ close nodes.object_field token.start ∷ fields depth start ∷ []) l at events.old out events.new result }
+// An object field's name and its `:`.
+fn field_name(tokens: &Tokens, name: Name, events: &mut Events) -> Result<Reached, Refused>
+    requires { Seen tokens.now.text.now name.token }
+    ensures { (c : Bool) (from : Reached) (depth start : ℕ) → Front tokens.now.text.now from.next name.token → Outcome c tokens.now.text.now (fields depth start ∷ []) (deeper depth ∷ close nodes.object_field name.token.start ∷ fields depth start ∷ []) events.old events.new from result }
 {
-    let opened = parser::put_open(events, out, node::OBJECT_FIELD, token.start);
-    let named = parser::put_leaf(events, opened, node::NAME, token);
-    colon(text, items, token.next, events, named)
+    events.open(Node::ObjectField, name.token);
+    events.leaf(Node::Name, name.token);
+    colon(tokens, name.token.reached(), events)
 }
 
-// An object field, whose name is the token.
+// An object field, which begins with its name.
 #[cycle(values)]
 fn object_field(
-    text: &[u8],
-    items: &[u8],
+    tokens: &Tokens,
     constant: bool,
-    token: Peeked,
+    name: Name,
     depth: usize,
-    events: &mut [u8],
-    out: usize,
-) -> Step
-    requires holds { Holds text.now items.now }
-    requires kind_value { is_name token.kind ≡ true }
-    requires seen { Seen text.now token }
-    ensures { (at l start : ℕ) → Front text.now at token → Outcome constant text.now (fields depth start ∷ []) (fields depth start ∷ []) l at events.old out events.new result }
+    events: &mut Events,
+) -> Result<Reached, Refused>
+    requires { Seen tokens.now.text.now name.token }
+    ensures { (from : Reached) (start : ℕ) → Front tokens.now.text.now from.next name.token → Outcome constant tokens.now.text.now (fields depth start ∷ []) (fields depth start ∷ []) events.old events.new from result }
 {
-    match field_name(text, items, token, events, out) {
-        Step::Stop { number, place } => Step::Stop { number, place },
-        Step::Done {
-            next,
-            end: _,
-            out: o,
-        } => {
-            if depth == 0 {
-                let t = parser::peek_token(text, items, next);
-                return Step::Stop {
-                    number: refusal::TOO_DEEP,
-                    place: t.start,
-                };
-            }
-            match value(text, items, constant, next, depth - 1, events, o) {
-                Step::Stop { number, place } => Step::Stop { number, place },
-                Step::Done {
-                    next: n,
-                    end,
-                    out: q,
-                } => Step::Done {
-                    next: n,
-                    end,
-                    out: parser::put_close(events, q, node::OBJECT_FIELD, token.start, end),
-                },
-            }
-        }
+    let named = field_name(tokens, name, events)?;
+    if depth == 0 {
+        let next = tokens.peek(named.next);
+        return Err(next.refused(Refusal::TooDeep));
     }
+    let held = value(tokens, constant, named, depth - 1, events)?;
+    events.close(Node::ObjectField, name.token, held.end);
+    Ok(held)
 }
 
 // An object value, whose `{` is the token: its fields are a loop.
 #[cycle(values)]
 fn object_value(
-    text: &[u8],
-    items: &[u8],
+    tokens: &Tokens,
     constant: bool,
     token: Peeked,
     depth: usize,
-    events: &mut [u8],
-    out: usize,
-) -> Step
-    requires holds { Holds text.now items.now }
-    requires kind_value { token.kind ≡ codes.brace_l }
-    requires seen { Seen text.now token }
-    ensures { (at l : ℕ) → Front text.now at token → Outcome constant text.now (value_due depth ∷ []) [] l at events.old out events.new result }
+    events: &mut Events,
+) -> Result<Reached, Refused>
+    requires kind_value { (token_of token).kind ≡ codes.brace_l }
+    requires seen { Seen tokens.now.text.now token }
+    ensures { (from : Reached) → Front tokens.now.text.now from.next token → Outcome constant tokens.now.text.now (value_due depth ∷ []) [] events.old events.new from result }
 {
-    let start = token.start;
-    let mut o = open_with(node::OBJECT_VALUE, token, events, out);
-    let mut i = token.next;
+    events.open_with(Node::ObjectValue, token);
+    let mut at = token.reached();
+    // Stays: beside `list_value`'s loop, for the reason there.
     loop {
-        let t = parser::peek_token(text, items, i);
-        let kind = t.kind;
-        if kind == item::R_CURLY {
-            return Step::Done {
-                next: t.next,
-                end: t.start + t.size,
-                out: close_with(node::OBJECT_VALUE, start, t, events, o),
-            };
+        let next = tokens.peek(at.next);
+        let ends = next.kind.is(Kind::RCurly);
+        if ends {
+            events.close_with(Node::ObjectValue, token, next);
+            return Ok(next.reached());
         }
-        if !is_name(kind) {
-            return Step::Stop {
-                number: refusal::NO_SENTENCE,
-                place: t.start,
-            };
-        }
-        match object_field(text, items, constant, t, depth, events, o) {
-            Step::Stop { number, place } => {
-                return Step::Stop { number, place };
-            }
-            Step::Done {
-                next,
-                end: _,
-                out: q,
-            } => {
-                i = next;
-                o = q;
-            }
-        }
+        let Some(name) = next.name() else {
+            return Err(next.refused(Refusal::NoSentence));
+        };
+        at = object_field(tokens, constant, name, depth, events)?;
     }
 }

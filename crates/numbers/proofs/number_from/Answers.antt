@@ -9,21 +9,18 @@ use Rattle.numbers.proofs.number_from.Goals as goal
 pub loop-i-init : goal.loop-i-init
 loop-i-init c = begin _ _ c.requires
 
-pub loop-i-preserved : goal.loop-i-preserved
-loop-i-preserved c = turn _ _ _ _ c.loop-i.invariant _ c.loop-i-test.true (sym c.number_step.ensures ∙ c.in-Go.is)
-
 pub returns-in-Done : goal.returns-in-Done
-returns-in-Done c = c.ended.ensures
-    ∙ ap lexed_of (done _ _ _ _ c.loop-i.invariant c.loop-i-test.true
-    (sym c.number_step.ensures ∙ c.in-Done.is))
+returns-in-Done c = c.ended.ensures ∙ ap lexed_of (done _ _ _ _ c.loop-i.invariant c.loop-i-test.true (sym c.in-Done.ensures))
 
-pub overflow_add-size : goal.overflow_add-size
-overflow_add-size c = let f = error_fits _ _ _ _ c.loop-i.invariant _ c.size_at.ensures in omega arith
+pub overflow_add-i : goal.overflow_add-i
+overflow_add-i c = let f = error_fits _ _ _ _ c.loop-i.invariant _ c.size_at.ensures in omega arith
 
 pub returns-in-Error : goal.returns-in-Error
-returns-in-Error c = error_lexed _ _
-    ∙ ap lexed_of (failed _ _ _ _ c.loop-i.invariant _ c.size_at.ensures _ c.loop-i-test.true
-    (sym c.number_step.ensures ∙ c.in-Error.is))
+returns-in-Error c = c.error.ensures ∙ error_lexed _ _
+    ∙ ap lexed_of (failed _ _ _ _ c.loop-i.invariant _ c.size_at.ensures _ c.loop-i-test.true (sym c.in-Error.ensures))
+
+pub loop-i-preserved : goal.loop-i-preserved
+loop-i-preserved c = turn _ _ _ _ c.loop-i.invariant _ c.loop-i-test.true (sym c.in-Go.ensures)
 
 pub returns : goal.returns
 returns c = c.ended-2.ensures ∙ ap lexed_of (ended _ _ _ _ c.loop-i.invariant c.loop-i-test.false)

@@ -1,12 +1,7 @@
 -- `numbers::number_from` meets its contract. The invariant: what is left to be read from here is what was to be read at the start.
 -- Assumes nothing.
-use Prim.Native.Nat.{◌-◌}
-use lib.ListN.{length}
 use Rattle.numbers.proofs.Turn.{Passed}
 use Rattle.numbers.proofs.number_from.Given as goal
 
 abbrev pub invariant-loop-i : goal.invariant-loop-i
-invariant-loop-i l = Passed l.rest l.initial.state l.state l.i
-
-abbrev pub decreases-loop-i : goal.decreases-loop-i
-decreases-loop-i l = length l.rest - l.i
+invariant-loop-i l = Passed l.rest l.fn.start l.state l.i

@@ -1,58 +1,63 @@
 -- `reader::give_items` meets its contract. Assumes nothing.
-use mathlib.Core.Path.{◌≡◌, ◌∙◌}
-use borrow.Author.Rules.{rules}
+use mathlib.Core.Path.{◌≡◌, sym, ◌∙◌}
+use Prim.Native.Nat.{◌≤◌, ◌<◌, min}
 use native.Mathlib.Omega.{arith}
+use Rattle.tape.specs.Entry.{room}
 use Rattle.rules.specs.Items.{item_at}
 use Rattle.rules.proofs.Bounds.{item_pos, item_le}
 use Rattle.reader.proofs.Turn.{at_limit, at_limit_tape, at_room, at_room_tape}
-use Rattle.reader.proofs.Reading.{start, code_fits, put_fits, given_all, given_all_tape, further, again}
+use Rattle.reader.proofs.Reading.{start, code_fits, put_fits, given_all, given_all_tape, again}
 use Rattle.reader.proofs.give_items.Goals as goal
+use Rattle.reader.proofs.give_items.Goals.{After-size_of-size}
 
-pub loop-cursor-init : goal.loop-cursor-init
-loop-cursor-init c = start c.args.text.now c.args.tape.now c.args.limit c.capacity-space.result c.new-cursor.result c.requires c.capacity-space.ensures c.new-cursor.ensures
+-- the limit and the room let one item more
+due : (c : After-size_of-size) → c.loop-n.n < min c.args.limit (room c.args.tape.now)
+due c = omega (arith, c.min-n-end.ensures, c.capacity-space.ensures)
 
-pub returns-then-at_limit : goal.returns-then-at_limit
-returns-then-at_limit c = record {
-  answer = at_limit item_at item_pos item_le c.args.text.now c.args.tape.now c.args.limit c.loop-cursor.tape c.loop-cursor.cursor.index c.loop-cursor.n c.loop-cursor.invariant.state c.if-at_limit.true;
-  tape = at_limit_tape item_at item_pos item_le c.args.text.now c.args.tape.now c.args.limit c.loop-cursor.tape c.loop-cursor.cursor.index c.loop-cursor.n c.loop-cursor.invariant.state c.if-at_limit.true;
-}
-
-pub returns-then-is_full : goal.returns-then-is_full
-returns-then-is_full c = let f = c.if-is_full.true ∙ c.loop-cursor.invariant.all in
-    let limit_tested : c.loop-cursor.n ≡ c.args.limit → ⊥ = search rules in
-    record {
-      answer = at_room item_at item_pos item_le c.args.text.now c.args.tape.now c.args.limit c.loop-cursor.tape c.loop-cursor.cursor.index c.loop-cursor.n c.loop-cursor.invariant.state limit_tested f;
-      tape = at_room_tape item_at item_pos item_le c.args.text.now c.args.tape.now c.args.limit c.loop-cursor.tape c.loop-cursor.cursor.index c.loop-cursor.n c.loop-cursor.invariant.state limit_tested f;
-    }
-
-pub advance-found-requires : goal.advance-found-requires
-advance-found-requires c = c.loop-cursor.invariant.state.within
+pub loop-n-init : goal.loop-n-init
+loop-n-init c = start c.args.text.now c.args.tape.now c.args.limit c.new-cursor.result c.requires c.new-cursor.ensures
 
 pub code_of-code-requires : goal.code_of-code-requires
-code_of-code-requires c = code_fits c.args.text.now c.args.tape.now c.args.limit c.capacity-space.result c.loop-cursor.tape c.loop-cursor.cursor c.loop-cursor.n c.loop-cursor.invariant c.advance-found.result c.advance-found.ensures
+code_of-code-requires c = code_fits c.args.text.now c.args.tape.now c.args.limit c.loop-n.tape c.loop-n.cursor c.loop-n.n c.loop-n.invariant c.advance-found.result c.advance-found.ensures
 
 pub put_entry-requires : goal.put_entry-requires
-put_entry-requires c = let f = put_fits c.args.text.now c.args.tape.now c.args.limit c.capacity-space.result c.loop-cursor.tape c.loop-cursor.cursor c.loop-cursor.n c.loop-cursor.invariant c.advance-found.result c.advance-found.ensures c.code_of-code.result c.code_of-code.ensures c.size_of-size.result c.size_of-size.ensures c.if-at_limit.false c.if-is_full.false in
+put_entry-requires c =
+    let f = put_fits c.args.text.now c.args.tape.now c.args.limit c.loop-n.tape c.loop-n.cursor c.loop-n.n c.loop-n.invariant c.advance-found.result c.advance-found.ensures c.code_of-code.result c.code_of-code.ensures c.size_of-size.result c.size_of-size.ensures (due (goal.at.put_entry-requires c).After-size_of-size) in
     record {
-      index_bound = omega (arith, f.0);
+      index_bound = f.0;
       start_bound = omega (arith, f.1.0);
       size_bound = f.1.1;
     }
 
-pub overflow_add-n : goal.overflow_add-n
-overflow_add-n c = let r = c.loop-cursor.invariant.state.roomy in
-    omega (arith, c.loop-cursor.invariant.all)
+pub returns-then-code-from : goal.returns-then-code-from
+returns-then-code-from c =
+    let d = due (goal.at.returns-then-code-from c).After-size_of-size in
+    let z = c.if-code-from.true ∙ c.from.ensures in
+    record {
+      answer = c.done.ensures ∙ given_all c.args.text.now c.args.tape.now c.args.limit c.loop-n.tape c.loop-n.cursor c.loop-n.n c.loop-n.invariant c.advance-found.result c.advance-found.ensures c.code_of-code.result c.code_of-code.ensures c.size_of-size.result c.size_of-size.ensures d z;
+      tape = c.put_entry.ensures ∙ given_all_tape c.args.text.now c.args.tape.now c.args.limit c.loop-n.tape c.loop-n.cursor c.loop-n.n c.loop-n.invariant c.advance-found.result c.advance-found.ensures c.code_of-code.result c.code_of-code.ensures c.size_of-size.result c.size_of-size.ensures d z;
+    }
 
-pub returns-then-code-eq-EOF : goal.returns-then-code-eq-EOF
-returns-then-code-eq-EOF c = record {
-  answer = given_all c.args.text.now c.args.tape.now c.args.limit c.capacity-space.result c.loop-cursor.tape c.loop-cursor.cursor c.loop-cursor.n c.loop-cursor.invariant c.advance-found.result c.advance-found.ensures c.code_of-code.result c.code_of-code.ensures c.size_of-size.result c.size_of-size.ensures c.if-at_limit.false c.if-is_full.false c.if-code-eq-EOF.true;
-  tape = c.put_entry.ensures ∙ given_all_tape c.args.text.now c.args.tape.now c.args.limit c.capacity-space.result c.loop-cursor.tape c.loop-cursor.cursor c.loop-cursor.n c.loop-cursor.invariant c.advance-found.result c.advance-found.ensures c.code_of-code.result c.code_of-code.ensures c.size_of-size.result c.size_of-size.ensures c.if-at_limit.false c.if-is_full.false c.if-code-eq-EOF.true;
-}
+pub loop-n-preserved : goal.loop-n-preserved
+loop-n-preserved c =
+    rw c.put_entry.ensures
+    (again c.args.text.now c.args.tape.now c.args.limit c.loop-n.tape c.loop-n.cursor c.loop-n.n c.loop-n.invariant c.advance-found.result c.advance-found.ensures c.code_of-code.result c.code_of-code.ensures c.size_of-size.result c.size_of-size.ensures (due (goal.at.loop-n-preserved c).After-size_of-size)
+    (λ e. c.if-code-from.false (e ∙ sym c.from.ensures)))
 
-pub loop-cursor-smaller : goal.loop-cursor-smaller
-loop-cursor-smaller c = let w = c.loop-cursor.invariant.state.within in
-    let g = (again c.args.text.now c.args.tape.now c.args.limit c.capacity-space.result c.loop-cursor.tape c.loop-cursor.cursor c.loop-cursor.n c.loop-cursor.invariant c.advance-found.result c.advance-found.ensures c.code_of-code.result c.code_of-code.ensures c.size_of-size.result c.size_of-size.ensures c.if-at_limit.false c.if-is_full.false c.if-code-eq-EOF.false).state.within in
-    omega (arith, further c.args.text.now c.args.tape.now c.args.limit c.capacity-space.result c.loop-cursor.tape c.loop-cursor.cursor c.loop-cursor.n c.loop-cursor.invariant c.advance-found.result c.advance-found.ensures c.code_of-code.result c.code_of-code.ensures c.size_of-size.result c.size_of-size.ensures c.if-at_limit.false c.if-is_full.false c.if-code-eq-EOF.false)
+pub returns-then-limit-space : goal.returns-then-limit-space
+returns-then-limit-space c =
+    let e : c.loop-n.n ≡ min c.args.limit (room c.args.tape.now) = omega (arith, c.min-n-end.ensures, c.capacity-space.ensures) in
+    let h : c.args.limit ≤ room c.args.tape.now = omega (arith, c.capacity-space.ensures) in
+    record {
+      answer = c.refused.ensures ∙ at_limit item_at item_pos item_le c.args.text.now c.args.tape.now c.args.limit c.loop-n.tape c.loop-n.cursor.index c.loop-n.n c.loop-n.invariant.state e h;
+      tape = at_limit_tape item_at item_pos item_le c.args.text.now c.args.tape.now c.args.limit c.loop-n.tape c.loop-n.cursor.index c.loop-n.n c.loop-n.invariant.state e h;
+    }
 
-pub loop-cursor-preserved : goal.loop-cursor-preserved
-loop-cursor-preserved c = rw c.put_entry.ensures (again c.args.text.now c.args.tape.now c.args.limit c.capacity-space.result c.loop-cursor.tape c.loop-cursor.cursor c.loop-cursor.n c.loop-cursor.invariant c.advance-found.result c.advance-found.ensures c.code_of-code.result c.code_of-code.ensures c.size_of-size.result c.size_of-size.ensures c.if-at_limit.false c.if-is_full.false c.if-code-eq-EOF.false)
+pub returns-else-limit-space : goal.returns-else-limit-space
+returns-else-limit-space c =
+    let e : c.loop-n.n ≡ min c.args.limit (room c.args.tape.now) = omega (arith, c.min-n-end.ensures, c.capacity-space.ensures) in
+    let h : room c.args.tape.now < c.args.limit = omega (arith, c.capacity-space.ensures) in
+    record {
+      answer = c.refused-else-limit-space.ensures ∙ rw c.capacity-space.ensures (at_room item_at item_pos item_le c.args.text.now c.args.tape.now c.args.limit c.loop-n.tape c.loop-n.cursor.index c.loop-n.n c.loop-n.invariant.state e h);
+      tape = at_room_tape item_at item_pos item_le c.args.text.now c.args.tape.now c.args.limit c.loop-n.tape c.loop-n.cursor.index c.loop-n.n c.loop-n.invariant.state e h;
+    }

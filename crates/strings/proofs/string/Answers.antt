@@ -6,10 +6,10 @@ use Rattle.strings.proofs.Items.{quoted_at, block_at}
 use Rattle.strings.proofs.string.Goals as goal
 
 pub block_string_literal-requires : goal.block_string_literal-requires
-block_string_literal-requires c = quotes_long c.args.rest.now (sym c.quotes_at.ensures ∙ c.if-quotes_at.true)
+block_string_literal-requires c = quotes_long c.args.rest.now (sym c.has_quotes.ensures ∙ c.if-has_quotes.true)
 
-pub returns-then-quotes_at : goal.returns-then-quotes_at
-returns-then-quotes_at c = c.block_string_literal.ensures ∙ ap lexed_of (block_at c.args.rest.now c.requires.rest_nonzero c.requires.rest_value (sym c.quotes_at.ensures ∙ c.if-quotes_at.true))
+pub returns-then-has_quotes : goal.returns-then-has_quotes
+returns-then-has_quotes c = c.block_string_literal.ensures ∙ ap lexed_of (block_at c.args.rest.now c.requires.rest_nonzero c.requires.rest_value (sym c.has_quotes.ensures ∙ c.if-has_quotes.true))
 
-pub returns : goal.returns
-returns c = c.string_literal.ensures ∙ ap lexed_of (quoted_at c.args.rest.now c.requires.rest_nonzero c.requires.rest_value (sym c.quotes_at.ensures ∙ c.if-quotes_at.false))
+pub returns-else-has_quotes : goal.returns-else-has_quotes
+returns-else-has_quotes c = c.string_literal.ensures ∙ ap lexed_of (quoted_at c.args.rest.now c.requires.rest_nonzero c.requires.rest_value (sym c.has_quotes.ensures ∙ c.if-has_quotes.false))

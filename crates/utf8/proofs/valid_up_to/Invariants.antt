@@ -5,8 +5,8 @@ use lib.ListN.{length}
 use Rattle.utf8.proofs.Turn.{Passed}
 use Rattle.utf8.proofs.valid_up_to.Given as goal
 
-abbrev pub invariant-loop-i : goal.invariant-loop-i
-invariant-loop-i l = Passed l.text l.i
+abbrev pub invariant-loop-n : goal.invariant-loop-n
+invariant-loop-n l = Passed l.text l.i
 
-abbrev pub decreases-loop-i : goal.decreases-loop-i
-decreases-loop-i l = length l.text - l.i
+abbrev pub decreases-loop-n : goal.decreases-loop-n
+decreases-loop-n l = length l.text - l.i

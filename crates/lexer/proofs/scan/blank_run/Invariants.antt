@@ -6,8 +6,8 @@ use Rattle.base.specs.Span.{span}
 use Rattle.rules.specs.Tokens.{blank, blanks}
 use Rattle.lexer.proofs.scan.blank_run.Given as goal
 
-abbrev pub invariant-loop-i : goal.invariant-loop-i
-invariant-loop-i l = (l.i ≤ length l.s) × (blanks l.s ≡ l.i + span blank 0 (drop l.i l.s))
+abbrev pub invariant-loop-n : goal.invariant-loop-n
+invariant-loop-n l = (l.i ≤ length l.s) × (blanks l.s ≡ l.i + span blank 0 (drop l.i l.s))
 
-abbrev pub decreases-loop-i : goal.decreases-loop-i
-decreases-loop-i l = length l.s - l.i
+abbrev pub decreases-loop-n : goal.decreases-loop-n
+decreases-loop-n l = length l.s - l.i

@@ -8,10 +8,12 @@ use Rattle.rules.specs.Classes.{name_continue}
 use Rattle.lexer.proofs.Fronts.{name_item, tail_run, tail_fits}
 use Rattle.lexer.proofs.scan.ident.Goals as goal
 
-pub overflow_add-size : goal.overflow_add-size
-overflow_add-size c = omega (arith, tail_fits name_continue c.args.rest.now c.name_run-size.result c.requires.rest_nonzero c.name_run-size.ensures)
+pub overflow_add-name_run : goal.overflow_add-name_run
+overflow_add-name_run c = omega (arith, tail_fits name_continue c.args.rest.now c.name_run.result c.requires.rest_nonzero c.name_run.ensures)
 
 pub returns : goal.returns
 unfolding lexed_of
-returns c = ap (λ (n : ℕ). lexed_of (lexeme 18 (1 + n))) (tail_run name_continue c.args.rest.now c.name_run-size.result c.requires.rest_nonzero c.name_run-size.ensures)
+returns c =
+    c.token.ensures
+    ∙ ap (λ (n : ℕ). lexed_of (lexeme 18 (1 + n))) (tail_run name_continue c.args.rest.now c.name_run.result c.requires.rest_nonzero c.name_run.ensures)
     ∙ sym (ap lexed_of (name_item c.args.rest.now c.requires.rest_nonzero c.requires.rest_value))

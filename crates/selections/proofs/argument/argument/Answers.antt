@@ -1,54 +1,31 @@
--- `selections::argument::argument` meets its contract: the name, a `:`, a value, and the node closes. Assumes nothing.
+-- `argument` meets its contract. Assumes nothing.
 use mathlib.Core.Bool.{false}
 use mathlib.Core.List.{[], ◌∷◌}
-use native.Mathlib.Omega.{arith}
+use Rattle.std.proofs.lemmas.Result.{err_from_is_err_and}
+use Rattle.parser.specs.Promise.{took, stopped}
+use Rattle.parser.proofs.Writing.{wrote_then}
 use Rattle.syntax.specs.Machine.{value, close, arguments}
-use Rattle.parser.proofs.Events.{puts_then}
-use Rattle.parser.proofs.Moves.{narrow}
-use Rattle.parser.proofs.Onward.{ready, onto, below, after}
+use Rattle.parser.proofs.Moves.{from_item, ready_behind, ready_at, took_to, took_went, took_closed, went_above, stopped_above, stopped_then, ok_took, err_stopped}
 use Rattle.values.proofs.Steps.{name_kind}
 use Rattle.selections.proofs.ArgumentSteps.{argument_named}
 use Rattle.selections.proofs.argument.argument.Goals as goal
 
-pub put_open-opened-requires : goal.put_open-opened-requires
-put_open-opened-requires c = omega (arith, narrow c.args.text.now c.args.items.now _ c.args.token c.requires.holds c.requires.seen.front)
+pub colon-requires : goal.colon-requires
+colon-requires c = ready_at c.args.name.token (ready_behind false _ (from_item c.requires.at 0) c.args.name.token c.requires.front (name_kind _ c.args.name.is).1) _ c.reached.ensures.next c.reached.ensures.end
 
-pub overflow_add-named : goal.overflow_add-named
-overflow_add-named c = omega (arith, narrow c.args.text.now c.args.items.now _ c.args.token c.requires.holds c.requires.seen.front)
+pub returns-in_err-parted : goal.returns-in_err-parted
+returns-in_err-parted c =
+    let p = err_from_is_err_and c.from_residual.result c.from_residual.ensures.1 in
+    rw (p.1, p.2) (λ from s F. stopped (stopped_then (took_to c.args.name.token (argument_named false _ from c.args.depth c.args.name.token F s c.args.name.is (wrote_then c.open.ensures c.leaf.ensures)) _ c.reached.ensures.next c.reached.ensures.end).went (stopped_above (value c.args.depth ∷ close 19 c.args.name.token.start ∷ arguments c.args.depth s ∷ []) (err_stopped (c.in_err-parted.ensures false)))))
 
-pub put_leaf-requires : goal.put_leaf-requires
-put_leaf-requires c = record {
-  node_bound = omega arith;
-  kind_bound = (name_kind _ c.requires.kind_value).0;
-  size_bound = narrow c.args.text.now c.args.items.now _ c.args.token c.requires.holds c.requires.seen.front;
-}
+pub value-requires : goal.value-requires
+value-requires c = (ok_took (c.in_ok-parted.ensures false)).went.ready
 
-pub then_colon-parted-requires : goal.then_colon-parted-requires
-then_colon-parted-requires c = record {
-  holds = c.requires.holds;
-  ready = (c.requires.seen.front.inside (name_kind _ c.requires.kind_value).1, c.requires.seen.front.fits);
-}
-
-pub then_value-valued-requires : goal.then_value-valued-requires
-then_value-valued-requires c = record {
-  holds = c.requires.holds;
-  ready = ready (c.then_colon-parted.ensures false);
-}
-
-pub then_close-requires : goal.then_close-requires
-then_close-requires c = record {
-  text_len_bound = omega (arith, c.requires.holds.short);
-  ready = ready c.then_value-valued.ensures;
-  node_bound = omega arith;
-  start_bound = omega (arith, narrow c.args.text.now c.args.items.now _ c.args.token c.requires.holds c.requires.seen.front);
-}
+pub returns-in_err-valued : goal.returns-in_err-valued
+returns-in_err-valued c =
+    let p = err_from_is_err_and c.from_residual-in_err-valued.result c.from_residual-in_err-valued.ensures.1 in
+    rw (p.1, p.2) (λ from s F. stopped (stopped_then (took_went (took_to c.args.name.token (argument_named false _ from c.args.depth c.args.name.token F s c.args.name.is (wrote_then c.open.ensures c.leaf.ensures)) _ c.reached.ensures.next c.reached.ensures.end) (went_above (value c.args.depth ∷ close 19 c.args.name.token.start ∷ arguments c.args.depth s ∷ []) (ok_took (c.in_ok-parted.ensures false)).went)).went (stopped_above (close 19 c.args.name.token.start ∷ arguments c.args.depth s ∷ []) (err_stopped c.in_err-valued.ensures))))
 
 pub returns : goal.returns
-returns c = λ at l s F.
-    after
-    (argument_named false c.args.text.now l at c.args.depth c.args.token F s _ _ _ _ c.requires.kind_value (puts_then c.put_open-opened.ensures c.put_leaf.ensures))
-    (onto
-    (below (value c.args.depth ∷ close 19 c.args.token.start ∷ arguments c.args.depth s ∷ []) (c.then_colon-parted.ensures false))
-    (onto
-    (below (close 19 c.args.token.start ∷ arguments c.args.depth s ∷ []) c.then_value-valued.ensures)
-    (below (arguments c.args.depth s ∷ []) (c.then_close.ensures false))))
+returns c = λ from s F. took
+    (took_closed (took_went (took_went (took_to c.args.name.token (argument_named false _ from c.args.depth c.args.name.token F s c.args.name.is (wrote_then c.open.ensures c.leaf.ensures)) _ c.reached.ensures.next c.reached.ensures.end) (went_above (value c.args.depth ∷ close 19 c.args.name.token.start ∷ arguments c.args.depth s ∷ []) (ok_took (c.in_ok-parted.ensures false)).went)) (went_above (close 19 c.args.name.token.start ∷ arguments c.args.depth s ∷ []) (ok_took c.in_ok-valued.ensures).went)) c.close.ensures)

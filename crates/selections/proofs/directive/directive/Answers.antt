@@ -1,48 +1,26 @@
--- `selections::directive::directive` meets its contract: the `@`, a Name, arguments or none, and the node closes. Assumes nothing.
+-- `directive` meets its contract. Assumes nothing.
 use mathlib.Core.Bool.{false}
 use mathlib.Core.List.{[], ◌∷◌}
-use native.Mathlib.Omega.{arith}
-use Rattle.syntax.specs.Machine.{opt_arguments, close, directives}
-use Rattle.parser.proofs.Moves.{narrow}
-use Rattle.parser.proofs.Onward.{ready, onto, below, after}
+use Rattle.std.proofs.lemmas.Result.{err_from_is_err_and}
+use Rattle.parser.specs.Promise.{took, stopped}
+use Rattle.syntax.specs.Machine.{close, opt_arguments, directives}
+use Rattle.parser.proofs.Moves.{took_to, took_went, took_closed, went_above, stopped_above, stopped_then, ok_took, err_stopped, goes_went, goes_stopped}
 use Rattle.selections.proofs.DirectiveSteps.{directive_opened}
 use Rattle.selections.proofs.directive.directive.Goals as goal
 
-pub overflow_add-opened : goal.overflow_add-opened
-overflow_add-opened c = omega (arith, narrow c.args.text.now c.args.items.now _ c.args.token c.requires.holds c.requires.seen.front)
+pub returns-in_err-named : goal.returns-in_err-named
+returns-in_err-named c =
+    let p = err_from_is_err_and c.from_residual.result c.from_residual.ensures.1 in
+    rw (p.1, p.2) (λ from s F. stopped (stopped_then (took_to c.args.token (directive_opened false _ from c.args.depth c.args.token F s c.requires.kind_value c.open_with.ensures) _ c.reached.ensures.next c.reached.ensures.end).went (stopped_above (opt_arguments c.args.depth ∷ close 21 c.args.token.start ∷ directives c.args.depth s ∷ []) (err_stopped (c.in_err-named.ensures false)))))
 
-pub open_with-requires : goal.open_with-requires
-open_with-requires c = record {
-  kind_bound = omega (arith, c.requires.kind_value);
-  size_bound = narrow c.args.text.now c.args.items.now _ c.args.token c.requires.holds c.requires.seen.front;
-}
+pub opt_arguments-requires : goal.opt_arguments-requires
+opt_arguments-requires c = (ok_took (c.in_ok-named.ensures false)).went.ready
 
-pub then_name-named-requires : goal.then_name-named-requires
-then_name-named-requires c = record {
-  holds = c.requires.holds;
-  ready = (c.requires.seen.front.inside (λ z. omega (arith, c.requires.kind_value)), c.requires.seen.front.fits);
-}
-
-pub then_arguments-given-requires : goal.then_arguments-given-requires
-then_arguments-given-requires c = record {
-  holds = c.requires.holds;
-  ready = ready (c.then_name-named.ensures false);
-}
-
-pub then_close-requires : goal.then_close-requires
-then_close-requires c = record {
-  text_len_bound = omega (arith, c.requires.holds.short);
-  ready = ready c.then_arguments-given.ensures;
-  node_bound = omega arith;
-  start_bound = omega (arith, narrow c.args.text.now c.args.items.now _ c.args.token c.requires.holds c.requires.seen.front);
-}
+pub returns-in_err-given : goal.returns-in_err-given
+returns-in_err-given c =
+    let p = err_from_is_err_and c.from_residual-in_err-given.result c.from_residual-in_err-given.ensures.1 in
+    rw (p.1, p.2) (λ from s F. stopped (stopped_then (took_went (took_to c.args.token (directive_opened false _ from c.args.depth c.args.token F s c.requires.kind_value c.open_with.ensures) _ c.reached.ensures.next c.reached.ensures.end) (went_above (opt_arguments c.args.depth ∷ close 21 c.args.token.start ∷ directives c.args.depth s ∷ []) (ok_took (c.in_ok-named.ensures false)).went)).went (stopped_above (close 21 c.args.token.start ∷ directives c.args.depth s ∷ []) (goes_stopped c.in_err-given.ensures))))
 
 pub returns : goal.returns
-returns c = λ at l s F.
-    after
-    (directive_opened false c.args.text.now l at c.args.depth c.args.token F s _ _ _ _ c.requires.kind_value c.open_with.ensures)
-    (onto
-    (below (opt_arguments c.args.depth ∷ close 21 c.args.token.start ∷ directives c.args.depth s ∷ []) (c.then_name-named.ensures false))
-    (onto
-    (below (close 21 c.args.token.start ∷ directives c.args.depth s ∷ []) c.then_arguments-given.ensures)
-    (below (directives c.args.depth s ∷ []) (c.then_close.ensures false))))
+returns c = λ from s F. took
+    (took_closed (took_went (took_went (took_to c.args.token (directive_opened false _ from c.args.depth c.args.token F s c.requires.kind_value c.open_with.ensures) _ c.reached.ensures.next c.reached.ensures.end) (went_above (opt_arguments c.args.depth ∷ close 21 c.args.token.start ∷ directives c.args.depth s ∷ []) (ok_took (c.in_ok-named.ensures false)).went)) (went_above (close 21 c.args.token.start ∷ directives c.args.depth s ∷ []) (goes_went c.in_ok-given.ensures))) c.close.ensures)

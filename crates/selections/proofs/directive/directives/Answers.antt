@@ -1,47 +1,35 @@
--- `selections::directive::directives` meets its contract. Assumes nothing.
-use mathlib.Core.Path.{refl, ◌∙◌}
+-- `directives` meets its contract. Assumes nothing.
 use mathlib.Core.Bool.{false}
 use native.Mathlib.Omega.{arith}
-use Rattle.parser.proofs.Moves.{was_done}
-use Rattle.parser.proofs.Onward.{ready, onto, outcome, nothing}
-use Rattle.selections.proofs.Ready.{goes_to, goes_refused}
+use Rattle.std.proofs.lemmas.Result.{err_from_is_err_and}
+use Rattle.parser.specs.Promise.{took, stopped}
+use Rattle.parser.specs.Promise as promise
+use Rattle.parser.proofs.Codes.{is_no}
+use Rattle.parser.proofs.Moves.{narrow_end, ok_took, err_stopped, begun, passed_went, passed_stopped, passed_more}
 use Rattle.selections.proofs.DirectiveSteps.{directives_closed}
 use Rattle.selections.proofs.directive.directives.Goals as goal
 
-pub loop-t-init : goal.loop-t-init
-loop-t-init c = (refl, nothing c.requires.ready (λ K. refl))
+pub loop-token-init : goal.loop-token-init
+loop-token-init c = (c.requires, begun)
 
-pub peek_token-t-requires : goal.peek_token-t-requires
-peek_token-t-requires c = record {
-  holds = c.requires.holds;
-  at_in_bounds = (ready c.loop-t.invariant.1).0;
-}
+pub close-requires : goal.close-requires
+close-requires c = narrow_end c.loop-token.invariant.0 c.args.tokens.now.holds.short
 
-pub put_close-requires : goal.put_close-requires
-put_close-requires c = record {
-  node_bound = omega arith;
-  start_bound = c.requires.start_bound;
-  end_bound = omega (arith, c.requires.holds.short, (ready c.loop-t.invariant.1).1);
-}
+pub returns-then-not-goes_on : goal.returns-then-not-goes_on
+returns-then-not-goes_on c = promise.went
+    (passed_went c.loop-token.invariant.1 (directives_closed false _ c.loop-token.at c.args.depth c.peek-token.result c.peek-token.ensures c.args.first.start (is_no c.is-goes_on.ensures c.if-not-goes_on.true) c.loop-token.invariant.0 c.close.ensures))
 
-pub returns-then-t-ne-AT : goal.returns-then-t-ne-AT
-returns-then-t-ne-AT c = onto c.loop-t.invariant.1 (directives_closed false c.args.text.now _ _ c.args.depth c.peek_token-t.result c.peek_token-t.ensures c.args.start _ _ _ _ c.if-t-ne-AT.true (ready c.loop-t.invariant.1) c.put_close.ensures)
+pub returns-in_err-at : goal.returns-in_err-at
+returns-in_err-at c =
+    let p = err_from_is_err_and c.from_residual.result c.from_residual.ensures.1 in
+    rw (p.1, p.2) (promise.Goes.stopped (passed_stopped c.loop-token.invariant.1 (err_stopped (c.in_err-at.ensures c.loop-token.at c.args.first.start c.peek-token.ensures))))
 
-pub directive-requires : goal.directive-requires
-directive-requires c = record {
-  holds = c.requires.holds;
-  kind_value = c.if-t-ne-AT.false;
-  seen = record { at = _; front = c.peek_token-t.ensures };
-}
+pub loop-token-smaller : goal.loop-token-smaller
+loop-token-smaller c =
+    let h = ok_took (c.in_ok-at.ensures c.loop-token.at c.args.first.start c.peek-token.ensures) in
+    omega (arith, h.ahead, h.went.ready.inside)
 
-pub returns-in-Stop : goal.returns-in-Stop
-returns-in-Stop c = onto c.loop-t.invariant.1 (goes_refused c.in-Stop.is (c.directive.ensures _ _ c.args.start c.peek_token-t.ensures))
-
-pub loop-t-smaller : goal.loop-t-smaller
-loop-t-smaller c = let h = was_done (c.directive.ensures _ 0 c.args.start c.peek_token-t.ensures) _ _ _ c.in-Done.is in
-    let a = h.ahead in
-    let i = h.went.inside in
-    omega arith
-
-pub loop-t-preserved : goal.loop-t-preserved
-loop-t-preserved c = (c.directive.auto.events ∙ c.loop-t.invariant.0, onto c.loop-t.invariant.1 (goes_to c.in-Done.is (outcome (c.directive.ensures _ _ c.args.start c.peek_token-t.ensures))))
+pub loop-token-preserved : goal.loop-token-preserved
+loop-token-preserved c =
+    let h = ok_took (c.in_ok-at.ensures c.loop-token.at c.args.first.start c.peek-token.ensures) in
+    (h.went.ready, passed_more c.loop-token.invariant.1 h)

@@ -1,17 +1,13 @@
--- `selections::directive::directives` meets its contract: a loop, which ends where no `@` stands. Assumes nothing.
-use Prim.Native.Nat.{◌-◌}
-use mathlib.Core.Path.{◌≡◌}
-use mathlib.Core.Bool.{false}
-use mathlib.Core.List.{[], ◌∷◌}
-use lib.ListN.{length}
+-- `directives` meets its contract. The invariant: what was read are directives. Assumes nothing.
+use Rattle.std.proofs.Common.{false, [], ◌∷◌, ◌-◌, length}
 use Rattle.rules.specs.Items.{items as items_of}
-use Rattle.syntax.specs.Machine.{directives as directives_due}
-use Rattle.parser.specs.declared.Step.TheVariants.{Done}
-use Rattle.parser.specs.Promise.{Goes}
+use Rattle.syntax.specs.Machine.{directives}
+use Rattle.parser.specs.Promise.{Ready}
+use Rattle.parser.proofs.Moves.{Passed}
 use Rattle.selections.proofs.directive.directives.Given as goal
 
-abbrev pub invariant-loop-t : goal.invariant-loop-t
-invariant-loop-t l = (length l.events ≡ length l.initial.events) × Goes false l.text (directives_due l.depth l.start ∷ []) (directives_due l.depth l.start ∷ []) l.initial.events l.events (Done l.initial.i l.initial.e l.initial.o) (Done l.i l.e l.o)
+abbrev pub invariant-loop-token : goal.invariant-loop-token
+invariant-loop-token l = Ready l.tokens.text.now l.at × Passed false l.tokens.text.now (directives l.depth l.first.start ∷ []) l.initial.events l.initial.at l.events l.at
 
-abbrev pub decreases-loop-t : goal.decreases-loop-t
-decreases-loop-t l = length (items_of l.text) - l.i
+abbrev pub decreases-loop-token : goal.decreases-loop-token
+decreases-loop-token l = length (items_of l.tokens.text.now) - l.at.next

@@ -1,6 +1,6 @@
--- `selections::field::alias` meets its contract: the name and its `:` inside an ALIAS. Assumes nothing.
-use Rattle.parser.proofs.Events.{puts_then}
+-- `alias` meets its contract. Assumes nothing.
+use Rattle.parser.proofs.Writing.{wrote_then}
 use Rattle.selections.proofs.field.alias.Goals as goal
 
 pub returns : goal.returns
-returns c = puts_then c.put_open-opened.ensures (puts_then c.put_leaf-named.ensures c.close_with.ensures)
+returns c = wrote_then (wrote_then c.open.ensures c.leaf.ensures) c.close_with.ensures

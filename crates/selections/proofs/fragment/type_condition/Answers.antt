@@ -1,34 +1,28 @@
--- `selections::fragment::type_condition` meets its contract: the `on`, and a NAMED_TYPE. Assumes nothing.
-use Prim.Native.Nat.{◌+◌}
-use mathlib.Core.Bool.{false}
+-- `type_condition` meets its contract. Assumes nothing.
+use mathlib.Core.Bool.{true}
 use mathlib.Core.List.{[], ◌∷◌}
-use native.Mathlib.Omega.{arith}
-use Rattle.parser.proofs.Moves.{narrow}
+use Rattle.std.proofs.lemmas.Result.{err_from_is_err_and}
+use Rattle.parser.specs.Promise.{took, stopped}
+use Rattle.parser.specs.Promise as promise
 use Rattle.syntax.specs.Machine.{close}
-use Rattle.parser.proofs.Onward.{ready, onto, below, outcome}
-use Rattle.selections.proofs.Sets.{closable}
+use Rattle.parser.proofs.Moves.{narrow_end, reached_is, went_above, went_closed, stopped_above, ok_took, err_stopped}
 use Rattle.selections.proofs.fragment.type_condition.Goals as goal
 
-pub open_with-opened-requires : goal.open_with-opened-requires
-open_with-opened-requires c = record {
-  kind_bound = omega (arith, c.requires.kind_value);
-  size_bound = narrow c.args.text.now c.args.items.now _ c.args.token c.requires.holds c.requires.seen.front;
-}
+pub returns-in_err-named : goal.returns-in_err-named
+returns-in_err-named c =
+    let p = err_from_is_err_and c.from_residual.result c.from_residual.ensures.1 in
+    rw (p.1, p.2) (λ b. record {
+      between = c.open_with.new.self;
+      first = c.open_with.ensures;
+      on = promise.Goes.stopped (stopped_above (close 25 c.args.token.start ∷ []) (err_stopped (rw (reached_is c.args.token c.reached.result c.reached.ensures.next c.reached.ensures.end) at (c.in_err-named.ensures b))));
+    })
 
-pub named_type-named-requires : goal.named_type-named-requires
-named_type-named-requires c = record {
-  holds = c.requires.holds;
-  at_in_bounds = c.requires.seen.front.inside (λ z. omega (arith, c.requires.kind_value));
-}
-
-pub then_close-requires : goal.then_close-requires
-then_close-requires c = let both = closable c.named_type-named.result 25 c.requires.holds c.requires.seen.front (ready (outcome (c.named_type-named.ensures false (c.args.token.start + c.args.token.size)))) (omega arith) in
-    record {
-      text_len_bound = both.0;
-      ready = both.1.0;
-      node_bound = both.1.1.0;
-      start_bound = both.1.1.1;
-    }
+pub close-requires : goal.close-requires
+close-requires c = narrow_end (ok_took (c.in_ok-named.ensures true)).went.ready c.args.tokens.now.holds.short
 
 pub returns : goal.returns
-returns c = λ b. record { between = _; written = _; first = c.open_with-opened.ensures; on = onto (below (close 25 c.args.token.start ∷ []) (outcome (c.named_type-named.ensures b (c.args.token.start + c.args.token.size)))) (c.then_close.ensures b) }
+returns c = λ b. record {
+  between = c.open_with.new.self;
+  first = c.open_with.ensures;
+  on = promise.went (went_closed (went_above (close 25 c.args.token.start ∷ []) (ok_took (rw (reached_is c.args.token c.reached.result c.reached.ensures.next c.reached.ensures.end) at (c.in_ok-named.ensures b))).went) c.close.ensures);
+}

@@ -1,13 +1,12 @@
--- `selections::selection::begins_selection` meets its contract. Assumes nothing.
-use mathlib.Core.Path.{◌∙◌}
-use borrow.Author.Tests.{ne_eqb}
+-- `begins_selection` meets its contract. Assumes nothing.
+use mathlib.Core.Path.{sym, ◌∙◌}
 use Rattle.selections.specs.Follows.{begins_selection}
 use Rattle.selections.proofs.selection.begins_selection.Goals as goal
 
-pub returns-then-kind-eq-SPREAD : goal.returns-then-kind-eq-SPREAD
+pub returns-then-is : goal.returns-then-is
 unfolding begins_selection
-returns-then-kind-eq-SPREAD c = rw c.if-kind-eq-SPREAD.true
+returns-then-is c = let e = sym c.is.ensures ∙ c.if-is.true in c.if-is.true ∙ rw e
 
-pub returns : goal.returns
+pub returns-else-is : goal.returns-else-is
 unfolding begins_selection
-returns c = c.is_name.ensures ∙ rw (ne_eqb _ _ c.if-kind-eq-SPREAD.false)
+returns-else-is c = let e = sym c.is.ensures ∙ c.if-is.false in c.is_name.ensures ∙ rw e

@@ -1,26 +1,19 @@
 -- `values::token::colon` meets its contract. Assumes nothing.
-use mathlib.Core.Path.{refl}
-use native.Mathlib.Omega.{arith}
+use mathlib.Core.Path.{sym, ◌∙◌}
 use mathlib.Core.List.{[], ◌∷◌}
+use borrow.Author.Tests.{eqb-true, eqb-false}
+use native.Mathlib.Omega.{arith}
 use Rattle.syntax.specs.Machine.{colon_due}
 use Rattle.parser.specs.Promise.{took, stopped}
-use Rattle.parser.proofs.Moves.{narrow, took_one, stop_one}
+use Rattle.parser.proofs.Moves.{took_one, took_to, stop_one}
 use Rattle.values.proofs.Steps.{at_colon_lem, no_colon}
 use Rattle.values.proofs.token.colon.Goals as goal
 
-pub returns-then-lacks_colon : goal.returns-then-lacks_colon
-returns-then-lacks_colon c = λ b l. stopped refl (stop_one b c.args.text.now l _ c.peek_token-token.result c.peek_token-token.ensures (colon_due ∷ []) 9 (λ K. no_colon b l _ K c.if-lacks_colon.true))
-
-pub overflow_add-result : goal.overflow_add-result
-overflow_add-result c = omega (arith, narrow c.args.text.now c.args.items.now _ c.peek_token-token.result c.requires.holds c.peek_token-token.ensures)
-
-pub put_token-requires : goal.put_token-requires
-put_token-requires c = let n = narrow c.args.text.now c.args.items.now _ c.peek_token-token.result c.requires.holds c.peek_token-token.ensures in
-    record {
-      kind_bound = omega (arith, c.if-lacks_colon.false);
-      start_bound = omega arith;
-      size_bound = omega arith;
-    }
+pub returns-then-not-has_colon : goal.returns-then-not-has_colon
+returns-then-not-has_colon c = λ b.
+    stopped (stop_one b _ c.args.from c.peek-token.result c.peek-token.ensures (colon_due ∷ []) c.refused.result (λ K. rw c.refused.ensures.refusal (no_colon b _ _ K (eqb-false _ _ (sym c.is-has_colon.ensures ∙ c.if-not-has_colon.true)))) c.refused.ensures.place)
 
 pub returns : goal.returns
-returns c = λ b l. took (took_one b c.args.text.now l _ c.peek_token-token.result c.peek_token-token.ensures (colon_due ∷ []) [] _ _ _ _ _ (λ K. at_colon_lem b l _ K c.if-lacks_colon.false) (λ z. omega (arith, c.if-lacks_colon.false)) c.put_token.ensures)
+returns c = λ b.
+    let k = eqb-true _ _ (sym c.is-has_colon.ensures ∙ c.if-not-has_colon.false) in
+    took (took_to c.peek-token.result (took_one b _ c.args.from c.peek-token.result c.peek-token.ensures (colon_due ∷ []) [] (λ K. at_colon_lem b _ _ K k) (λ z. omega (arith, k, z)) c.token.ensures) _ c.reached.ensures.next c.reached.ensures.end)

@@ -1,29 +1,17 @@
 -- `values::value::field_name` meets its contract: the name, and its `:`. Assumes nothing.
-use Prim.Native.Nat.{◌+◌}
-use native.Mathlib.Omega.{arith}
+use mathlib.Core.Bool.{true}
 use mathlib.Core.List.{[], ◌∷◌}
-use Rattle.parser.proofs.Events.{puts_then}
 use Rattle.syntax.specs.Machine.{fields, colon_due, deeper, close}
 use Rattle.parser.specs.View.{token_of}
-use Rattle.parser.proofs.Moves.{narrow, took_one, then, above}
+use Rattle.parser.proofs.Writing.{wrote_then}
+use Rattle.parser.proofs.Moves.{from_item, ready_behind, ready_at, took_one, took_to, then, above}
 use Rattle.values.proofs.Steps.{name_kind, object_name}
 use Rattle.values.proofs.value.field_name.Goals as goal
 
-pub put_open-opened-requires : goal.put_open-opened-requires
-put_open-opened-requires c = omega (arith, narrow c.args.text.now c.args.items.now _ c.args.token c.requires.holds c.requires.seen.front)
-
-pub put_leaf-named-requires : goal.put_leaf-named-requires
-put_leaf-named-requires c = record {
-  node_bound = omega arith;
-  kind_bound = (name_kind _ c.requires.kind_value).0;
-  size_bound = narrow c.args.text.now c.args.items.now _ c.args.token c.requires.holds c.requires.seen.front;
-}
-
 pub colon-requires : goal.colon-requires
-colon-requires c = record {
-  holds = c.requires.holds;
-  at_in_bounds = c.requires.seen.front.inside (name_kind _ c.requires.kind_value).1;
-}
+colon-requires c = ready_at c.args.name.token (ready_behind true _ (from_item c.requires.at 0) c.args.name.token c.requires.front (name_kind _ c.args.name.is).1) _ c.reached.ensures.next c.reached.ensures.end
 
 pub returns : goal.returns
-returns c = λ b at l d s F. then (took_one b c.args.text.now l at c.args.token F (fields d s ∷ []) (colon_due ∷ deeper d ∷ close 10 c.args.token.start ∷ fields d s ∷ []) _ _ _ _ _ (λ K. object_name b l d (token_of c.args.token) K s c.requires.kind_value) (name_kind _ c.requires.kind_value).1 (puts_then c.put_open-opened.ensures c.put_leaf-named.ensures)) (above (deeper d ∷ close 10 c.args.token.start ∷ fields d s ∷ []) (c.colon.ensures b (c.args.token.start + c.args.token.size)))
+returns c = λ b from d s F. then
+    (took_to c.args.name.token (took_one b _ from c.args.name.token F (fields d s ∷ []) (colon_due ∷ deeper d ∷ close 10 c.args.name.token.start ∷ fields d s ∷ []) (λ K. object_name b from.end d (token_of c.args.name.token) K s c.args.name.is) (name_kind _ c.args.name.is).1 (wrote_then c.open.ensures c.leaf.ensures)) _ c.reached.ensures.next c.reached.ensures.end)
+    (above (deeper d ∷ close 10 c.args.name.token.start ∷ fields d s ∷ []) (c.colon.ensures b))

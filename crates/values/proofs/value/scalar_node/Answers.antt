@@ -1,33 +1,32 @@
--- `values::value::scalar_node` meets its contract, kind by kind. Assumes nothing.
-use borrow.Author.Rules.{rules}
-use Rattle.base.proofs.Rules.{tests}
+-- `scalar_node` meets its contract. Assumes nothing.
+use mathlib.Core.Path.{◌≡◌, refl}
+use Rattle.codes.specs.declared.fault.Fault.{Fault}
+use Rattle.codes.specs.declared.fault.Fault.TheVariants as the
+use Rattle.parser.specs.declared.token.TokenKind.TheVariants as token
+use Rattle.parser.specs.Kinds.{number_of}
 use Rattle.values.specs.Scalars.{scalar_node}
 use Rattle.values.proofs.value.scalar_node.Goals as goal
 
-pub returns-in-20 : goal.returns-in-20
+no_error : (f : Fault) → scalar_node (number_of (token.Error f)) ≡ 0
 unfolding scalar_node
-returns-in-20 c = rw c.in-20.is
+no_error the.UnexpectedCharacter = refl
+no_error the.SecondDigit = refl
+no_error the.IntegerSuffix = refl
+no_error the.NoFractionDigit = refl
+no_error the.FloatSuffix = refl
+no_error the.NoExponent = refl
+no_error the.NoDigitAfterSign = refl
+no_error the.MinusWithoutDigit = refl
+no_error the.EndsInsideFloat = refl
+no_error the.BadSpread = refl
+no_error the.LoneQuote = refl
+no_error the.UnterminatedString = refl
+no_error the.LineTerminator = refl
+no_error the.BadEscape = refl
+no_error the.NonHex = refl
+no_error the.QuoteInsideEscape = refl
+no_error the.UnpairedSurrogate = refl
+no_error the.BadBracedEscape = refl
 
-pub returns-in-21 : goal.returns-in-21
-unfolding scalar_node
-returns-in-21 c = rw c.in-21.is
-
-pub returns-in-19 : goal.returns-in-19
-unfolding scalar_node
-returns-in-19 c = rw c.in-19.is
-
-pub returns-in-22 : goal.returns-in-22
-unfolding scalar_node
-returns-in-22 c = rw c.in-22.is
-
-pub returns-in-23 : goal.returns-in-23
-unfolding scalar_node
-returns-in-23 c = rw c.in-23.is
-
-pub returns-in-24 : goal.returns-in-24
-unfolding scalar_node
-returns-in-24 c = rw c.in-24.is
-
-pub returns-in_default : goal.returns-in_default
-unfolding scalar_node
-returns-in_default c = search (rules, tests)
+pub returns-in-Error : goal.returns-in-Error
+returns-in-Error c = rw c.in-Error.is (no_error c.in-Error.field-0)

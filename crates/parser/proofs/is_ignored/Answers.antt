@@ -1,7 +1,0 @@
--- `parser::is_ignored` meets its contract. Assumes nothing.
-use Rattle.syntax.specs.Words.{ignored}
-use Rattle.parser.proofs.is_ignored.Goals as goal
-
-pub returns : goal.returns
-unfolding ignored
-returns c = c.within.ensures
