@@ -6,7 +6,8 @@ ghost use Rattle.codes.specs.FaultNumbers as faults;
 
 use codes::{Fault, Kind, kind};
 
-// Stays: `code_of` and `size_of` promise their result for any numbers, and `own_token` and `own_fault` (lexer/proofs/Own.antt) speak of them.
+// Stays: numbers, since `size_of` promises its result for any, `code_of` for all whose code is below 256 (docs/PROMISES.md names both), and
+// `own_token` and `own_fault` (lexer/proofs/Own.antt) speak of such items.
 #[derive(Clone, Copy)]
 pub enum Lexed {
     Token { kind: u8, size: usize },

@@ -38,7 +38,7 @@ impl From<Kind> for u8 {
     }
 }
 
-// Stays: a table by hand. No derive gives TryFrom, and `rt ci` refuses an impl that a macro writes.
+// Stays: a table by hand. No derive gives TryFrom, `rt ci` refuses an impl that a macro writes, and a chain over all of them is no plainer.
 impl TryFrom<u8> for Kind {
     type Error = UnknownNumber;
 

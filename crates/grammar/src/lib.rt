@@ -3,8 +3,10 @@
 
 ghost use Rattle.std.specs.Prelude.{◌≡◌, ◌≤◌, length};
 ghost use Rattle.codes.specs.Refusals.{deepest};
+ghost use Rattle.codes.specs.RefusalNumbers.{number_of};
 ghost use Rattle.tape.specs.Entry.{room};
 ghost use Rattle.rules.specs.Items.{items as items_of};
+ghost use Rattle.reader.specs.Answers.{answer};
 ghost use Rattle.syntax.specs.Words.{tokens as tokens_of};
 ghost use Rattle.grammar.specs.Answers.{read_of, read_answer, counted_events, grammar_answer, grammar_items, grammar_events};
 ghost use Rattle.grammar.specs.Promise.{Begins, Parses, IsFirst};
@@ -58,7 +60,20 @@ fn parse(entry: Entry, tokens: &Tokens, depth: usize, tape: &mut [u8]) -> Result
     Ok(events.count)
 }
 
+// A refusal, where so many items are on the item tape and no event is on the other.
+fn refused(by: Refused, items: usize) -> Answer
+    ensures { result ≡ answer (number_of by.refusal) by.place items 0 }
+{
+    Answer {
+        number: usize::from(by.refusal),
+        place: by.place,
+        items,
+        events: 0,
+    }
+}
+
 // After the items were read without a refusal, and there are `count` of them.
+// Stays: the count beside the tape, which has room for more and is lent whole; an `Answer` gives it on.
 fn parse_twice(
     entry: Entry,
     tokens: &Tokens,
@@ -71,12 +86,7 @@ fn parse_twice(
     ensures events { events.new ≡ counted_events events.old (read_of entry depth (tokens_of tokens.now.text.now)) }
 {
     match parse(entry, tokens, depth, &mut events[..0]) {
-        Err(Refused { refusal, place }) => Answer {
-            number: usize::from(refusal),
-            place,
-            items: count,
-            events: 0,
-        },
+        Err(by) => refused(by, count),
         Ok(needed) if tape::capacity(events) < needed => Answer {
             number: usize::from(Refusal::EventTapeShort),
             place: 0,
@@ -97,14 +107,7 @@ fn first_error(tokens: &Tokens, count: usize) -> Option<usize>
     requires { count ≡ length (items_of tokens.now.text.now) }
     ensures { IsFirst (items_of tokens.now.text.now) result }
 {
-    for i in 0..count {
-        let e = tape::get_entry(tokens.items, i);
-        let is_error = e.code >= kind::ERROR;
-        if is_error {
-            return Some(i);
-        }
-    }
-    None
+    (0..count).find(|&i| tape::get_entry(tokens.items, i).code >= kind::ERROR)
 }
 
 // Reads the text as the entry says: items to the item tape, events to the event tape.
@@ -122,12 +125,11 @@ pub fn read(
 {
     let past_deepest = depth > refusal::DEEPEST;
     if past_deepest {
-        return Answer {
-            number: usize::from(Refusal::DepthLimit),
+        let by = Refused {
+            refusal: Refusal::DepthLimit,
             place: 0,
-            items: 0,
-            events: 0,
         };
+        return refused(by, 0);
     }
     let a = reader::read_items(text, limit, items);
     if a.number != refusal::DONE {
@@ -136,12 +138,11 @@ pub fn read(
     let tokens = Tokens { text, items };
     if let Some(first) = first_error(&tokens, a.items) {
         let e = tape::get_entry(tokens.items, first);
-        return Answer {
-            number: usize::from(Refusal::ErrorItem),
+        let by = Refused {
+            refusal: Refusal::ErrorItem,
             place: e.start,
-            items: a.items,
-            events: 0,
         };
+        return refused(by, a.items);
     }
     parse_twice(entry, &tokens, a.items, depth, events)
 }

@@ -1,10 +1,10 @@
 // The list of a text's events: what the grammar finds, indented by nesting.
-ghost use Rattle.std.specs.Prelude.{◌≡◌, not, eqb, IfOk};
+ghost use Rattle.std.specs.Prelude.{◌≡◌, not, eqb, MatchResult};
 ghost use Rattle.codes.specs.Refusals.{done};
 
-use crate::row::{Form, Style, colour_of, put_covered, put_span, put_word};
+use crate::row::{Form, List, Style, colour_of, put_word};
 use codes::{node, refusal};
-use print::{Colour, EventCode, Output, Refused, digits, entry_at, first_error, less, sum};
+use print::{Colour, EventCode, Output, Refused, entry_at, first_error, less, sum};
 use reader::Answer;
 use std::fmt;
 use std::fmt::Write;
@@ -19,38 +19,6 @@ fn event_colour(code: u8) -> Colour {
     }
 }
 
-// The numbers stand in columns as far as some twelve nodes are open.
-fn put_described(out: &mut Output, colour: bool, open: usize, code: u8) -> fmt::Result {
-    let indent = sum(open, open);
-    let rest = less(24, indent);
-    let on = event_colour(code).if_wanted(colour);
-    let off = Colour::Plain.if_wanted(colour);
-    write!(
-        out,
-        "{:indent$}{on}{}{off}{:rest$}",
-        "",
-        EventCode(code),
-        ""
-    )
-}
-
-fn put_row(
-    out: &mut Output,
-    colour: bool,
-    index: usize,
-    open: usize,
-    text: &[u8],
-    e: Entry,
-) -> fmt::Result {
-    let width = digits(sum(text.len(), 1));
-    let wide = sum(width, 1);
-    write!(out, "{index:wide$}  ")?;
-    put_described(out, colour, open, e.code)?;
-    put_span(out, width, e)?;
-    put_covered(out, text, e)?;
-    out.write_str("\n")
-}
-
 // How many nodes are open after an event.
 fn opened(open: usize, code: u8) -> usize {
     match code {
@@ -60,26 +28,52 @@ fn opened(open: usize, code: u8) -> usize {
     }
 }
 
-// The rows of the tape's first `count` events.
-fn put_rows(
-    out: &mut Output,
-    style: Style,
-    text: &[u8],
-    events: &[u8],
-    count: usize,
-) -> fmt::Result {
-    let mut open = 0;
-    for i in 0..count {
-        let e = entry_at(events, i);
-        let next = opened(open, e.code);
-        match style.form {
-            Form::Word => put_word(out, e)?,
-            // a node's closing stands where its opening does
-            Form::Row => put_row(out, style.colour, i + 1, open.min(next), text, e)?,
-        }
-        open = next;
+impl<'a> List<'a> {
+    // The numbers stand in columns as far as some twelve nodes are open.
+    fn put_described(self, out: &mut Output, open: usize, code: u8) -> fmt::Result {
+        let indent = sum(open, open);
+        let rest = less(24, indent);
+        let on = event_colour(code).if_wanted(self.style.colour);
+        let off = Colour::Plain.if_wanted(self.style.colour);
+        write!(
+            out,
+            "{:indent$}{on}{}{off}{:rest$}",
+            "",
+            EventCode(code),
+            ""
+        )
     }
-    Ok(())
+
+    fn put_event(self, out: &mut Output, index: usize, open: usize, e: Entry) -> fmt::Result {
+        let width = sum(self.width, 1);
+        write!(out, "{index:width$}  ")?;
+        self.put_described(out, open, e.code)?;
+        self.put_span(out, e)?;
+        self.put_covered(out, e)?;
+        out.write_str("\n")
+    }
+
+    // The rows of the tape's first `count` events.
+    fn put_events(self, out: &mut Output, tape: &[u8], count: usize) -> fmt::Result {
+        let mut open = 0;
+        for i in 0..count {
+            let e = entry_at(tape, i);
+            let next = opened(open, e.code);
+            match self.style.form {
+                Form::Word => put_word(out, e)?,
+                // a node's closing stands where its opening does
+                Form::Row => self.put_event(out, i + 1, open.min(next), e)?,
+            }
+            open = next;
+        }
+        Ok(())
+    }
+}
+
+// A list that was not written whole, and whether it told of a refusal.
+#[derive(Clone, Copy, Debug, PartialEq, Eq)]
+pub struct Unwritten {
+    pub refused: bool,
 }
 
 // Lists the events that the answer tells of, or its refusal. Says whether there was one.
@@ -90,14 +84,18 @@ pub fn list_events(
     events: &[u8],
     answer: Answer,
     out: &mut Output,
-) -> Result<bool, fmt::Error>
-    ensures { IfOk result (λ refused. refused ≡ not (eqb answer.number done)) }
+) -> Result<bool, Unwritten>
+    ensures { MatchResult result (λ refused. refused ≡ not (eqb answer.number done)) (λ e. e.refused ≡ not (eqb answer.number done)) }
 {
     if answer.number == refusal::DONE {
-        put_rows(out, style, text, events, answer.events)?;
-        return Ok(false);
+        return match List::new(style, text).put_events(out, events, answer.events) {
+            Ok(_) => Ok(false),
+            Err(_) => Err(Unwritten { refused: false }),
+        };
     }
     let first = first_error(items, answer.items);
-    Refused::new(text, answer.number, answer.place, first).put_report(out, style.colour)?;
-    Ok(true)
+    match Refused::new(text, answer.number, answer.place, first).put_report(out, style.colour) {
+        Ok(_) => Ok(true),
+        Err(_) => Err(Unwritten { refused: true }),
+    }
 }

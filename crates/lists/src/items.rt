@@ -1,35 +1,29 @@
 // The list of a text's items. A text may have more items than the tape has room for: then the tape is filled again from the first unread byte on,
 // where the items are those of the rest of the text, read alone and moved (`suffix` in crates/rules/proofs/Tiling.antt).
-use crate::row::{Form, Style, colour_of, put_covered, put_span, put_word};
+use crate::row::{Form, List, Style, colour_of, put_word};
 use codes::{Refusal, kind, refusal};
 use print::{
-    Colour, ItemCode, Output, Refused, Spot, digits, entry_at, forward, less, put_caret,
-    put_error_item, sum,
+    Colour, ItemCode, Output, Refused, Spot, entry_at, forward, less, put_caret, put_error_item,
+    sum,
 };
 use std::fmt;
 use std::fmt::Write;
 use tape::Entry;
 
 // What is listed of a text: all its items, with a count of its error items, or its error items with their lines.
+// Stays: a value that says which. A closure is no plainer: it would be lent list, output, index, entry and pass, and each method between would ask
+// that it may be called on them.
 #[derive(Clone, Copy, Debug, PartialEq, Eq)]
 enum Wanted {
     Items,
     Errors,
 }
 
-// A list that is asked for, and how wide its numbers are.
-#[derive(Clone, Copy, Debug)]
-struct List<'a> {
-    style: Style,
-    limit: usize,
-    text: &'a [u8],
-    width: usize,
-}
-
-// How far a pass over the items has come: the reader's number, the first unread byte, how many items were given, how many error items were listed, and
-// the place in the text.
+// How far a pass over the items has come: how many items there may be, the reader's number, the first unread byte, how many items were given, how many
+// error items were listed, and the place in the text.
 #[derive(Clone, Copy, Debug)]
 struct Pass {
+    limit: usize,
     number: usize,
     place: usize,
     given: usize,
@@ -39,8 +33,9 @@ struct Pass {
 
 impl Pass {
     // A pass that is to begin.
-    fn new() -> Self {
+    fn new(limit: usize) -> Self {
         Pass {
+            limit,
             number: refusal::DONE,
             place: 0,
             given: 0,
@@ -55,8 +50,8 @@ impl<'a> List<'a> {
         let width = self.width;
         let colour = colour_of(e.code).if_wanted(self.style.colour);
         write!(out, "{index:width$}  {colour}{}", ItemCode(e.code))?;
-        put_span(out, width, e)?;
-        put_covered(out, self.text, e)?;
+        self.put_span(out, e)?;
+        self.put_covered(out, e)?;
         writeln!(out, "{}", Colour::Plain.if_wanted(self.style.colour))
     }
 
@@ -108,7 +103,7 @@ impl<'a> List<'a> {
     ) -> fmt::Result {
         let offset = pass.place;
         let given = pass.given;
-        let a = reader::read_items(rest(self.text, offset), less(self.limit, given), tape);
+        let a = reader::read_items(rest(self.text, offset), less(pass.limit, given), tape);
         for i in 0..a.items {
             let e = moved(entry_at(tape, i), offset);
             self.put_entry(out, wanted, sum(given, i + 1), e, pass)?;
@@ -124,9 +119,10 @@ impl<'a> List<'a> {
         self,
         out: &mut Output,
         wanted: Wanted,
+        limit: usize,
         tape: &mut [u8],
     ) -> Result<Pass, fmt::Error> {
-        let mut pass = Pass::new();
+        let mut pass = Pass::new(limit);
         for _ in 0..=self.text.len() {
             self.put_portion(out, wanted, tape, &mut pass)?;
             if pass.number != usize::from(Refusal::ItemTapeFull) {
@@ -156,17 +152,12 @@ pub fn list_items(
     tape: &mut [u8],
     out: &mut Output,
 ) -> Result<bool, fmt::Error> {
-    let list = List {
-        style,
-        limit,
-        text,
-        width: digits(sum(text.len(), 1)),
-    };
-    let pass = list.go_through(out, Wanted::Items, tape)?;
+    let list = List::new(style, text);
+    let pass = list.go_through(out, Wanted::Items, limit, tape)?;
     let has_errors = pass.errors != 0;
     if has_errors {
         out.write_str("\n")?;
-        list.go_through(out, Wanted::Errors, tape)?;
+        list.go_through(out, Wanted::Errors, limit, tape)?;
     }
     if pass.number == refusal::DONE {
         return Ok(has_errors);

@@ -5,6 +5,6 @@ mod events;
 mod items;
 mod row;
 
-pub use events::list_events;
+pub use events::{Unwritten, list_events};
 pub use items::list_items;
 pub use row::{Form, Style};

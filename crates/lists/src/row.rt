@@ -3,7 +3,7 @@ ghost use Rattle.std.specs.Prelude.{◌≡◌};
 ghost use Rattle.lists.specs.Colours.{colour_of};
 
 use codes::{Kind, kind};
-use print::{Colour, Medium, Output, put_shown, sum};
+use print::{Colour, Medium, Output, digits, put_shown, sum};
 use std::fmt;
 use std::fmt::Write;
 use tape::Entry;
@@ -33,6 +33,7 @@ pub fn put_word(out: &mut Output, e: Entry) -> fmt::Result {
 }
 
 // Item codes, as patterns.
+// Stays: bytes, as a pattern takes a constant. What may not change: `colour_of` promises its result for any byte.
 const COMMENT: u8 = Kind::Comment as u8;
 
 const NAME: u8 = Kind::Name as u8;
@@ -57,23 +58,42 @@ pub fn colour_of(code: u8) -> Colour
     }
 }
 
-// Start and end.
-pub fn put_span(out: &mut Output, width: usize, e: Entry) -> fmt::Result {
-    let start = e.start;
-    let end = sum(start, e.size);
-    write!(out, " {start:width$}  {end:width$}")
+// A list of a text that is asked for, and how wide its numbers are.
+#[derive(Clone, Copy, Debug)]
+pub struct List<'a> {
+    pub style: Style,
+    pub text: &'a [u8],
+    pub width: usize,
 }
 
-// What the entry covers, if anything, shortened.
-pub fn put_covered(out: &mut Output, text: &[u8], e: Entry) -> fmt::Result {
-    if e.size == 0 {
-        return Ok(());
+impl<'a> List<'a> {
+    pub fn new(style: Style, text: &'a [u8]) -> Self {
+        List {
+            style,
+            text,
+            width: digits(sum(text.len(), 1)),
+        }
     }
-    out.write_str("  ")?;
-    put_shown(
-        out,
-        Medium::Terminal,
-        reader::part(text, e.start, e.size),
-        40,
-    )
+
+    // Start and end.
+    pub fn put_span(self, out: &mut Output, e: Entry) -> fmt::Result {
+        let width = self.width;
+        let start = e.start;
+        let end = sum(start, e.size);
+        write!(out, " {start:width$}  {end:width$}")
+    }
+
+    // What the entry covers, if anything, shortened.
+    pub fn put_covered(self, out: &mut Output, e: Entry) -> fmt::Result {
+        if e.size == 0 {
+            return Ok(());
+        }
+        out.write_str("  ")?;
+        put_shown(
+            out,
+            Medium::Terminal,
+            reader::part(self.text, e.start, e.size),
+            40,
+        )
+    }
 }

@@ -8,6 +8,7 @@ ghost use Rattle.lookup.specs.Class.{punctuation_of, class_of};
 
 use codes::Kind;
 
+// Stays: one kind for each class, by number as `class_of` has it (docs/PROMISES.md names `class` and `class_unique`): Float for `-`, Eof for none.
 // The class of a byte: the kind of the token that can begin with it, but that of a Float for `-`, with which an Int can begin too, and that of
 // Eof if none can.
 #[tactic(auto, unfolding(crate::specs::Class::class_of))]
@@ -26,6 +27,7 @@ pub fn class(b: u8) -> Kind
     }
 }
 
+// Stays: Eof where it is none, and no Option, since `class` hands it on as it is.
 // The kind of the punctuator that the byte is; that of Eof if it is none.
 #[tactic(auto, unfolding(crate::specs::Class::punctuation_of))]
 fn punctuator(b: u8) -> Kind

@@ -15,12 +15,13 @@ use reader::Answer;
 use std::env::Env;
 use std::fmt;
 use std::fmt::Write;
-use std::ops::RangeInclusive;
+use std::ops::{Range, RangeInclusive};
 use tape::Entry;
 
 // The descriptor on which the head is lent.
 const HEAD: i32 = 5;
 // The last code of an event that opens a node, and of one that closes one.
+// Stays: numbers. No plainer: a range's end is a number, and `Tag` and `Label` take any byte.
 const LAST_OPENING: u8 = node::CLOSES - 1;
 
 const LAST_CLOSING: u8 = node::TOKEN - 1;
@@ -117,26 +118,30 @@ fn put_title(out: &mut Output, e: Entry) -> fmt::Result {
     }
 }
 
-// The events that the grammar gave, and which of them is next.
+// The events that the grammar gave, and the numbers of those that are still to come.
 #[derive(Drop)]
-struct Events<'a> {
+struct Tags<'a> {
     tape: &'a [u8],
-    count: usize,
-    next: usize,
+    left: Range<usize>,
 }
 
-impl<'a> Events<'a> {
+impl<'a> Tags<'a> {
     // The tags of the next events, as long as they have one of these codes.
-    fn put_tags(&mut self, out: &mut Output, codes: RangeInclusive<u8>) -> fmt::Result {
-        for i in self.next..self.count {
+    fn put(&mut self, out: &mut Output, codes: RangeInclusive<u8>) -> fmt::Result {
+        for i in self.left.start..self.left.end {
             let code = entry_at(self.tape, i).code;
             if !codes.contains(&code) {
                 break;
             }
             write!(out, "{}", Tag(code))?;
-            self.next = i + 1;
+            self.pass();
         }
         Ok(())
+    }
+
+    // Passes the next event, if there is one.
+    fn pass(&mut self) {
+        self.left.next();
     }
 }
 
@@ -211,10 +216,9 @@ impl<'a> Page<'a> {
 
     // The text: its items one after the other, and the nodes around them, which open before a token and close after it.
     fn put_text(self, out: &mut Output) -> fmt::Result {
-        let mut events = Events {
+        let mut tags = Tags {
             tape: self.events,
-            count: self.answer.events,
-            next: 0,
+            left: 0..self.answer.events,
         };
         for index in 0..self.answer.items {
             let e = entry_at(self.items, index);
@@ -222,10 +226,11 @@ impl<'a> Page<'a> {
                 put_item(out, self.text, e, index)?;
                 continue;
             }
-            events.put_tags(out, 0..=LAST_OPENING)?;
+            tags.put(out, 0..=LAST_OPENING)?;
             put_item(out, self.text, e, index)?;
-            events.next = sum(events.next, 1);
-            events.put_tags(out, node::CLOSES..=LAST_CLOSING)?;
+            // the token's
+            tags.pass();
+            tags.put(out, node::CLOSES..=LAST_CLOSING)?;
         }
         Ok(())
     }

@@ -12,7 +12,7 @@ ghost use Rattle.parser.specs.Events.{store, Wrote};
 use crate::token::{Peeked, TokenKind};
 use codes::{Kind, Node, node};
 
-// Stays: a count beside the tape, since it counts on where the tape is full, as the table of refusals has it.
+// Stays: a count beside the tape. It counts on where the tape is full, since refusal 10 gives how many events there are (`counted`, `Parses`).
 #[derive(Drop)]
 pub struct Events<'a> {
     pub tape: &'a mut [u8],

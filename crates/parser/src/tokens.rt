@@ -65,7 +65,7 @@ impl Tokens<'_> {
         ensures { Front self.now.text.now at result }
     {
         let mut i = at;
-        // Stays: a `for` would need an end, which is never reached.
+        // Stays: a `for` or a chain over the numbers from `at` on would need an end, and an answer for it: none is reached, as the last item is Eof.
         loop {
             let e = tape::get_entry(self.items, i);
             i += 1;

@@ -102,6 +102,7 @@ fn put_escape(out: &mut Output, v: u32) -> fmt::Result {
 }
 
 // The character at i of s, which is c: itself, or an escape.
+// Stays: s, i and c one by one, here, in `put_safe` and in `put_flat`. A struct is no plainer: `Characters` gives i and c, and each caller has s.
 pub fn put_character(out: &mut Output, s: &[u8], i: usize, c: Seen) -> fmt::Result {
     match c {
         Seen::Byte(b) => write!(out, "\\x{b:02X}"),

@@ -1,5 +1,5 @@
 // Standard output through a buffer.
-ghost use Rattle.std.specs.Prelude.{◌≡◌, ◌+◌, ◌-◌, ◌^◌, ◌≤◌, min, OnOk};
+ghost use Rattle.std.specs.Prelude.{◌≡◌, false, ◌+◌, ◌-◌, ◌^◌, ◌≤◌, min, OnOk};
 ghost use Rattle.io.specs.Digits.{IsDigitCount};
 
 use std::fmt;
@@ -13,6 +13,8 @@ const STDOUT: i32 = 1;
 pub struct Output {
     buffer: [u8; 65536],
     filled: usize,
+    // Did a write fail?
+    failed: bool,
     ghost fits: { filled ≤ 65536 },
 }
 
@@ -24,9 +26,11 @@ impl Output {
         Output {
             buffer: [0; 65536],
             filled: 0,
+            failed: false,
         }
     }
 
+    // Stays: a byte at a time, here and in `put`, with a count. Copying slices is no plainer: bytes may pass the buffer's end, and go on at its start.
     fn push(&mut self, b: u8) -> fmt::Result {
         if self.filled == 65536 {
             self.flush()?;
@@ -44,11 +48,12 @@ impl Output {
         Ok(())
     }
 
-    // Writes what the buffer holds.
+    // Writes what the buffer holds, if no write has failed before.
     pub fn flush(&mut self) -> fmt::Result
-        ensures { OnOk result (self.new.filled ≡ 0) }
+        ensures { OnOk result ((self.new.filled ≡ 0) × (self.old.failed ≡ false)) }
     {
-        if !io::write_all(STDOUT, &self.buffer[..self.filled]) {
+        if self.failed || !io::write_all(STDOUT, &self.buffer[..self.filled]) {
+            self.failed = true;
             return Err(fmt::Error);
         }
         self.filled = 0;
@@ -61,6 +66,8 @@ impl fmt::Write for Output {
         self.put(s.as_bytes())
     }
 }
+
+// Stays: `less` and `sum`, beside the library's methods. What may not change: docs/PROMISES.md names them, and `less_unique` and `sum_unique`.
 
 // a - b, and 0 where b is larger.
 pub fn less(a: usize, b: usize) -> usize

@@ -12,6 +12,7 @@ use std::fmt;
 use std::fmt::Write;
 
 // An error item that starts at the spot, without its line.
+// Stays: `colour` beside `out`, here and below. A struct of both is no plainer: pages share these functions, and `Output` too, and have no colours.
 pub fn put_error_item(
     out: &mut Output,
     colour: bool,
@@ -29,6 +30,7 @@ pub fn put_error_item(
     )
 }
 
+// Stays: the refusal by its number, as `reader::Answer` has it, where 0 is none. What may not change: the clause `number` of `Refused::new`.
 // A refusal of a text, by its number: where, and the error of the first error item, if there is one.
 #[derive(Clone, Copy, Debug)]
 pub struct Refused<'a> {

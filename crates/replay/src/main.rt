@@ -50,10 +50,9 @@ impl TryFrom<u8> for Entry {
     }
 }
 
-// Why the run ends.
+// Why the run ends before its input does.
 #[derive(Clone, Copy, Debug, PartialEq, Eq)]
 enum Stop {
-    End,
     Unwritten,
     CutShort,
     LongText,
@@ -64,9 +63,10 @@ enum Stop {
 
 impl Stop {
     // One clear line on standard error, if a case is refused.
+    // Stays: beside Display. It is no plainer: nothing is formatted, and standard error has no `fmt::Write` here.
     fn line(self) -> &'static str {
         match self {
-            Stop::End | Stop::Unwritten => "",
+            Stop::Unwritten => "",
             Stop::CutShort => "replay: a case is cut short\n",
             Stop::LongText => "replay: a text of over 1,048,577 bytes\n",
             Stop::LongItemTape => "replay: an item tape of over 2,097,152 bytes\n",
@@ -77,6 +77,8 @@ impl Stop {
 }
 
 // A case, but for its text.
+// Stays: numbers whose meaning the entry gives, as the cases hold them (what may not change): the fields are the same for all, and an unknown entry is
+// refused after a text that is cut short.
 #[derive(Clone, Copy, Debug)]
 struct Case {
     entry: u8,
@@ -169,14 +171,19 @@ fn answer(case: Case, text: &[u8], items: &mut [u8], events: &mut [u8]) -> Resul
     write_answer(a, items, events)
 }
 
-// Reads and answers one case.
-fn one_case(text: &mut [u8], items: &mut [u8], events: &mut [u8]) -> Result<(), Stop> {
+// The next case, but for its text, if the input has one.
+fn next_case() -> Result<Option<Case>, Stop> {
     let mut head = [0u8; HEAD];
     let got = io::read_full(STDIN, &mut head);
     if got == 0 {
-        return Err(Stop::End);
+        return Ok(None);
     }
     let case = parse(&head[..got]).ok_or(Stop::CutShort)?;
+    Ok(Some(case))
+}
+
+// Reads a case's text, and answers it.
+fn one_case(case: Case, text: &mut [u8], items: &mut [u8], events: &mut [u8]) -> Result<(), Stop> {
     let text = text.get_mut(..case.text_bytes).ok_or(Stop::LongText)?;
     let items = items.get_mut(..case.item_bytes).ok_or(Stop::LongItemTape)?;
     let events = events
@@ -196,7 +203,10 @@ fn all_cases<const T: usize, const I: usize, const E: usize>(
     events: &mut [u8; E],
 ) -> Result<(), Stop> {
     for _ in 0..u64::MAX {
-        one_case(text, items, events)?;
+        let Some(case) = next_case()? else {
+            break;
+        };
+        one_case(case, text, items, events)?;
     }
     Ok(())
 }

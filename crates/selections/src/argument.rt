@@ -61,7 +61,8 @@ fn arguments(
 }
 
 // Arguments, or none.
-// Stays: beside `opt_directives` and `opt_selection_set`: each asks for another kind and goes on otherwise.
+// Stays: beside `opt_directives` and `opt_selection_set`. Three lines that differ in the kind, in what goes on, and in the symbol of the contract: one
+// function would take a closure with a contract over that symbol, and be longer than the lines that it saves.
 pub fn opt_arguments(
     tokens: &Tokens,
     from: Reached,

@@ -48,6 +48,7 @@ impl Entry {
     }
 }
 
+// Stays: limit and depth, which are start and length for a part, as the script hands them over (what may not change): it has the same fields for all.
 #[derive(Clone, Copy, Debug)]
 pub struct Asked {
     pub entry: Entry,
@@ -60,10 +61,7 @@ pub struct Asked {
 }
 
 fn digit(b: u8) -> usize {
-    match b {
-        b'0'..=b'9' => (b - b'0') as usize,
-        _ => 0,
-    }
+    char::from(b).to_digit(10).unwrap_or(0) as usize
 }
 
 // A number that is too large to hold is larger than the items or bytes of any text, as the largest is.

@@ -28,6 +28,12 @@ impl From<fmt::Error> for Complaint {
     }
 }
 
+impl From<lists::Unwritten> for Complaint {
+    fn from(_e: lists::Unwritten) -> Complaint {
+        Complaint::Unwritten
+    }
+}
+
 impl From<io::Error> for Complaint {
     fn from(_e: io::Error) -> Complaint {
         Complaint::Unread
@@ -36,6 +42,7 @@ impl From<io::Error> for Complaint {
 
 impl Complaint {
     // The line on standard error.
+    // Stays: beside Display. It is no plainer: nothing is formatted, and standard error has no `fmt::Write` here.
     pub fn line(self) -> &'static str {
         match self {
             Complaint::Unread => "paumelu: the text cannot be read\n",

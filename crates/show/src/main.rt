@@ -4,6 +4,8 @@
 // is told to. 0: all was read; 1: there was a refusal or an error item; 2: the text was not read; 3: a part whose span passes the text's end.
 #![tactic(auto)]
 
+ghost use Rattle.std.specs.Prelude.{◌<◌, ◌^◌};
+
 mod asked;
 mod ended;
 mod input;
@@ -20,6 +22,12 @@ const STDOUT: i32 = 1;
 const STDERR: i32 = 2;
 
 const STATUS: i32 = 3;
+
+// How long the text's buffer is for the longest texts.
+const LARGE: usize = refusal::LONGEST + 1;
+
+// Stays: rt, asked, text, items, events and out one by one, here and below. A struct of them is no plainer: it would be lent for writing whole, where
+// rt, asked and text are read beside what is written.
 
 // Writes what is left in the buffer.
 fn finish(out: &mut Output, refused: bool) -> Result<Ended, Complaint> {
@@ -127,30 +135,19 @@ fn read_large<const T: usize, const I: usize, const E: usize>(
     }
 }
 
-// Texts of up to 16,777,216 bytes. An array of such a length goes to a function for any length: the checker does not follow one that is passed as a slice
-// where it is made.
-fn go_items(
+// Makes the buffers for a text that did not fit the small ones, of lengths that a slice can have. An array of a million bytes goes to a function for any
+// length: the checker does not follow one that is passed as a slice where it is made.
+fn go_with<const T: usize, const I: usize, const E: usize>(
     rt: &HostRuntime,
     asked: Asked,
     head: &[u8],
     out: &mut Output,
-) -> Result<Ended, Complaint> {
-    let mut text = [0u8; refusal::LONGEST + 1];
-    let mut items = [0u8; 8388608];
-    let mut events = [0u8; 8];
-    read_large(rt, asked, head, &mut text, &mut items, &mut events, out)
-}
-
-// Texts of up to 1,048,576 bytes: eight bytes of item tape and forty of event tape for each byte of the text.
-fn go_events(
-    rt: &HostRuntime,
-    asked: Asked,
-    head: &[u8],
-    out: &mut Output,
-) -> Result<Ended, Complaint> {
-    let mut text = [0u8; 1048577];
-    let mut items = [0u8; 8388616];
-    let mut events = [0u8; 41943040];
+) -> Result<Ended, Complaint>
+    requires { (T < 2 ^ 63) × ((I < 2 ^ 63) × (E < 2 ^ 63)) }
+{
+    let mut text = [0u8; T];
+    let mut items = [0u8; I];
+    let mut events = [0u8; E];
     read_large(rt, asked, head, &mut text, &mut items, &mut events, out)
 }
 
@@ -164,9 +161,11 @@ fn go_large(
     out: &mut Output,
 ) -> Result<Ended, Complaint> {
     if asked.entry.takes_large() {
-        go_items(rt, asked, head, out)
+        // up to 16,777,216 bytes
+        go_with::<{ LARGE }, 8388608, 8>(rt, asked, head, out)
     } else {
-        go_events(rt, asked, head, out)
+        // up to 1,048,576 bytes: eight bytes of item tape and forty of event tape for each byte of the text
+        go_with::<1048577, 8388616, 41943040>(rt, asked, head, out)
     }
 }
 

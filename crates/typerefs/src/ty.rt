@@ -9,16 +9,16 @@ ghost use Rattle.syntax.specs.Machine.{named_type};
 ghost use Rattle.syntax.specs.TypeReading.{type_at};
 ghost use Rattle.parser.specs.View.{Front, Seen, rest};
 ghost use Rattle.parser.specs.Events.{Wrote};
-ghost use Rattle.parser.specs.Promise.{Ready, Outcome};
+ghost use Rattle.parser.specs.Promise.{Outcome};
 ghost use Rattle.typerefs.specs.Promise.{TypeOutcome};
 ghost use Rattle.typerefs.specs.Walk.{base_at, Below, Noted, Marked, Walked, Closed, Ended};
 
-use codes::{Kind, Node, Refusal, Refused};
+use codes::{Kind, Node, Refusal, Refused, refusal};
 use parser::{Events, Peeked, Reached, Tokens};
 
 // A named type is due.
 pub fn named_type(tokens: &Tokens, from: Reached, events: &mut Events) -> Result<Reached, Refused>
-    requires { Ready tokens.now.text.now from }
+    requires { from.next < length (items_of tokens.now.text.now) }
     ensures { (c : Bool) → Outcome c tokens.now.text.now (named_type ∷ []) [] events.old events.new from result }
 {
     let token = tokens.peek(from.next);
@@ -145,11 +145,11 @@ pub fn ty(
     depth: usize,
     events: &mut Events,
 ) -> Result<Reached, Refused>
-    requires ready { Ready tokens.now.text.now from }
+    requires next_in_bounds { from.next < length (items_of tokens.now.text.now) }
     requires depth_le_deepest { depth ≤ deepest }
     ensures { TypeOutcome tokens.now.text.now depth from.next events.old events.new result }
 {
-    let mut bangs = [false; 501];
+    let mut bangs = [false; refusal::DEEPEST + 1];
     let mut none = [0u8; 0];
     let mut nowhere = Events::new(&mut none);
     walk(tokens, from.next, depth, &mut bangs, &mut nowhere)?;

@@ -1,13 +1,14 @@
 // Values and constant values. Items of a list and fields of an object are loops; only depth recurses.
-ghost use Rattle.std.specs.Prelude.{◌≡◌, Bool, true, [], ◌∷◌, ℕ};
+ghost use Rattle.std.specs.Prelude.{◌≡◌, Bool, true, [], ◌∷◌, ℕ, ◌<◌, length};
 ghost use Rattle.codes.specs.EventCodes as nodes;
 ghost use Rattle.codes.specs.ItemCodes as codes;
 ghost use Rattle.codes.specs.KindNumbers.{number_of as kind_number};
+ghost use Rattle.rules.specs.Items.{items as items_of};
 ghost use Rattle.syntax.specs.Machine.{value as value_due, deeper, fields, close};
 ghost use Rattle.parser.specs.declared.token.TokenKind.TheVariants as token_kind;
 ghost use Rattle.parser.specs.Kinds.{number_of};
 ghost use Rattle.parser.specs.View.{token_of, Front, Seen};
-ghost use Rattle.parser.specs.Promise.{Ready, Outcome};
+ghost use Rattle.parser.specs.Promise.{Outcome};
 ghost use Rattle.values.specs.Scalars.{scalar_node, NodeOf};
 
 use crate::token::colon;
@@ -59,7 +60,7 @@ pub fn value(
     depth: usize,
     events: &mut Events,
 ) -> Result<Reached, Refused>
-    requires { Ready tokens.now.text.now from }
+    requires { from.next < length (items_of tokens.now.text.now) }
     ensures { Outcome constant tokens.now.text.now (value_due depth ∷ []) [] events.old events.new from result }
 {
     let token = tokens.peek(from.next);

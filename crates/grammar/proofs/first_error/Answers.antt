@@ -1,21 +1,18 @@
--- `first_error` meets its contract. Assumes nothing.
-use mathlib.Core.Path.{ap, ◌∙◌}
-use Prim.Native.Nat.{◌<◌}
-use native.Mathlib.Omega.{arith}
-use lib.ListN.{length}
+-- `first_error` meets its contract: the chain stops at the first error item. Assumes nothing.
+use mathlib.Core.Path.{ap}
+use borrow.Author.Tests.{tests}
+use Rattle.std.proofs.Common.{rules, ◌≤◌, ◌<◌}
+use Rattle.std.proofs.lemmas.Iterator.{first_from_Range}
 use Rattle.base.specs.Item.{Item}
 use Rattle.rules.specs.Items.{items as items_of}
-use Rattle.grammar.proofs.Errors.{error_here, no_error_here}
+use Rattle.tape.specs.Entry.{entry_of}
+use Rattle.grammar.proofs.Errors.{first_found}
 use Rattle.grammar.proofs.first_error.Goals as goal
 
-pub returns-then-is_error : goal.returns-then-is_error
-returns-then-is_error c =
-    let n : c.loop-i.i < length (items_of c.args.tokens.now.text.now) = omega (arith, c.requires, c.loop-i-test.true) in
-    let e = ap (λ (x : Item). x.code) (c.get_entry-e.ensures ∙ c.args.tokens.now.holds.entries c.loop-i.i n) in
-    (error_here (items_of c.args.tokens.now.text.now) c.loop-i.i c.loop-i.invariant n (omega (arith, e, c.if-is_error.true)), n)
-
-pub loop-i-preserved : goal.loop-i-preserved
-loop-i-preserved c =
-    let n : c.loop-i.i < length (items_of c.args.tokens.now.text.now) = omega (arith, c.requires, c.loop-i-test.true) in
-    let e = ap (λ (x : Item). x.code) (c.get_entry-e.ensures ∙ c.args.tokens.now.holds.entries c.loop-i.i n) in
-    no_error_here (items_of c.args.tokens.now.text.now) c.loop-i.i c.loop-i.invariant n (omega (arith, e, c.if-is_error.false))
+pub returns : goal.returns
+returns c =
+    let tape = c.args.tokens.now.items.now in
+    first_found (items_of c.args.tokens.now.text.now) c.args.count (λ k. (entry_of tape k).code) c.requires
+    (λ k l. ap (λ (x : Item). x.code) (c.args.tokens.now.holds.entries k l)) c.find.result
+    (first_from_Range _ _ _ c.find.result (λ k. 64 ≤ (entry_of tape k).code) (λ k. (entry_of tape k).code < 64) c.find.ensures.ran
+    (λ k q h. search (rules, tests)) (λ k q h. search (rules, tests)))

@@ -9,7 +9,7 @@ pub returns-then-past_deepest : goal.returns-then-past_deepest
 returns-then-past_deepest c =
     let both = too_deep_lem c.args.entry c.args.text.now c.args.limit c.args.depth c.args.items.now c.args.events.now c.if-past_deepest.true in
     record {
-      answer = rw c.from.ensures both.0;
+      answer = rw c.refused.ensures both.0;
       items = both.1.0;
       events = both.1.1;
     }
@@ -34,7 +34,7 @@ returns-in-Some c =
     let both = let n = counted c.args.entry c.args.text.now c.args.limit c.args.depth c.args.items.now c.args.events.now (omega (arith, c.if-past_deepest.false)) c.read_items-a.result _ c.read_items-a.ensures.answer c.read_items-a.ensures.tape c.if-a-ne-DONE.false in
     an_error c.args.entry c.args.text.now c.args.limit c.args.depth c.args.items.now c.args.events.now (omega (arith, c.if-past_deepest.false)) c.read_items-a.result _ c.read_items-a.ensures.answer c.read_items-a.ensures.tape c.if-a-ne-DONE.false _ c.in-Some.ensures.0 (omega (arith, n, c.in-Some.ensures.1)) (item_of c.get_entry-e.result) c.get_entry-e.ensures in
     record {
-      answer = rw c.from-in-Some.ensures both.0;
+      answer = rw c.refused-in-Some.ensures both.0;
       items = both.1.0;
       events = both.1.1;
     }

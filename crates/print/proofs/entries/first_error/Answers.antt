@@ -1,7 +1,8 @@
--- `print::entries::first_error` meets its contract: an error item is found. Assumes nothing.
-use Rattle.tape.specs.Answers.{item_of}
-use Rattle.print.proofs.Errors.{found}
+-- `print::entries::first_error` meets its contract: the chain stops with the first error item. Assumes nothing.
+use Rattle.std.proofs.Common.{rules}
+use mathlib.Core.Path.{refl}
+use Rattle.print.proofs.Errors.{searched}
 use Rattle.print.proofs.entries.first_error.Goals as goal
 
-pub returns-then-code-ge-ERROR : goal.returns-then-code-ge-ERROR
-returns-then-code-ge-ERROR c = found _ _ _ c.loop-i.invariant (item_of c.entry_at-code.result) c.entry_at-code.ensures c.loop-i-test.true c.if-code-ge-ERROR.true
+pub returns : goal.returns
+returns c = searched c.args.tape.now _ _ (λ k r q h. search rules) c.args.count _ c.find_map.result refl c.find_map.ensures.runs

@@ -11,7 +11,7 @@ use Rattle.selections.proofs.ArgumentSteps.{argument_named}
 use Rattle.selections.proofs.argument.argument.Goals as goal
 
 pub colon-requires : goal.colon-requires
-colon-requires c = ready_at c.args.name.token (ready_behind false _ (from_item c.requires.at 0) c.args.name.token c.requires.front (name_kind _ c.args.name.is).1) _ c.reached.ensures.next c.reached.ensures.end
+colon-requires c = (ready_at c.args.name.token (ready_behind false _ (from_item c.requires.at 0) c.args.name.token c.requires.front (name_kind _ c.args.name.is).1) _ c.reached.ensures.next c.reached.ensures.end).inside
 
 pub returns-in_err-parted : goal.returns-in_err-parted
 returns-in_err-parted c =
@@ -19,7 +19,7 @@ returns-in_err-parted c =
     rw (p.1, p.2) (λ from s F. stopped (stopped_then (took_to c.args.name.token (argument_named false _ from c.args.depth c.args.name.token F s c.args.name.is (wrote_then c.open.ensures c.leaf.ensures)) _ c.reached.ensures.next c.reached.ensures.end).went (stopped_above (value c.args.depth ∷ close 19 c.args.name.token.start ∷ arguments c.args.depth s ∷ []) (err_stopped (c.in_err-parted.ensures false)))))
 
 pub value-requires : goal.value-requires
-value-requires c = (ok_took (c.in_ok-parted.ensures false)).went.ready
+value-requires c = (ok_took (c.in_ok-parted.ensures false)).went.ready.inside
 
 pub returns-in_err-valued : goal.returns-in_err-valued
 returns-in_err-valued c =

@@ -63,7 +63,7 @@ object_field-returns-then-depth-eq0 t c = λ from s F. stopped
 pub object_field-value-requires : goal.object_field-value-requires
 object_field-value-requires t c = (
   omega (arith, c.decreases, c.if-depth-eq0.false),
-  (ok_took (c.in_ok-named.ensures c.args.constant (from_item c.requires.at 0) c.args.depth 0 c.requires.front)).went.ready,
+  (ok_took (c.in_ok-named.ensures c.args.constant (from_item c.requires.at 0) c.args.depth 0 c.requires.front)).went.ready.inside,
 )
 
 pub object_field-returns-in_err-held : goal.object_field-returns-in_err-held

@@ -9,7 +9,7 @@ use Rattle.values.proofs.Steps.{name_kind, object_name}
 use Rattle.values.proofs.value.field_name.Goals as goal
 
 pub colon-requires : goal.colon-requires
-colon-requires c = ready_at c.args.name.token (ready_behind true _ (from_item c.requires.at 0) c.args.name.token c.requires.front (name_kind _ c.args.name.is).1) _ c.reached.ensures.next c.reached.ensures.end
+colon-requires c = (ready_at c.args.name.token (ready_behind true _ (from_item c.requires.at 0) c.args.name.token c.requires.front (name_kind _ c.args.name.is).1) _ c.reached.ensures.next c.reached.ensures.end).inside
 
 pub returns : goal.returns
 returns c = λ b from d s F. then

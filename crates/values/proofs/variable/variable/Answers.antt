@@ -11,7 +11,7 @@ use Rattle.values.proofs.Steps.{at_variable}
 use Rattle.values.proofs.variable.variable.Goals as goal
 
 pub name-requires : goal.name-requires
-name-requires c = ready_at c.args.token (ready_behind false _ (from_item c.requires.seen.at 0) c.args.token c.requires.seen.front (λ z. omega (arith, z, c.requires.kind_value))) _ c.reached.ensures.next c.reached.ensures.end
+name-requires c = (ready_at c.args.token (ready_behind false _ (from_item c.requires.seen.at 0) c.args.token c.requires.seen.front (λ z. omega (arith, z, c.requires.kind_value))) _ c.reached.ensures.next c.reached.ensures.end).inside
 
 pub close-requires : goal.close-requires
 close-requires c = narrow_end (ok_took (c.in_ok-named.ensures false)).went.ready c.args.tokens.now.holds.short
