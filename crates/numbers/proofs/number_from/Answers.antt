@@ -3,11 +3,8 @@ use mathlib.Core.Path.{sym, ap, ◌∙◌}
 use native.Mathlib.Omega.{arith}
 use Rattle.base.specs.Lexed.{lexed_of}
 use Rattle.base.proofs.Found.{error_lexed}
-use Rattle.numbers.proofs.Turn.{begin, turn, done, ended, error_fits, failed}
+use Rattle.numbers.proofs.Turn.{turn, done, ended, error_fits, failed}
 use Rattle.numbers.proofs.number_from.Goals as goal
-
-pub loop-i-init : goal.loop-i-init
-loop-i-init c = begin _ _ c.requires
 
 pub returns-in-Done : goal.returns-in-Done
 returns-in-Done c = c.ended.ensures ∙ ap lexed_of (done _ _ _ _ c.loop-i.invariant c.loop-i-test.true (sym c.in-Done.ensures))

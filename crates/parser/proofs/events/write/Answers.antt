@@ -8,12 +8,5 @@ use Rattle.parser.proofs.events.write.Goals as goal
 pub returns-then-is_full : goal.returns-then-is_full
 returns-then-is_full c = store_out _ _ (item c.args.code c.args.start c.args.size) (omega (arith, c.capacity.ensures, c.if-is_full.true))
 
-pub put_entry-requires : goal.put_entry-requires
-put_entry-requires c = record {
-  index_bound = omega (arith, c.capacity.ensures, c.if-is_full.false);
-  start_bound = c.requires.start_bound;
-  size_bound = c.requires.size_bound;
-}
-
 pub returns : goal.returns
 returns c = c.put_entry.ensures ∙ store_in _ _ (item c.args.code c.args.start c.args.size) (omega (arith, c.capacity.ensures, c.if-is_full.false))

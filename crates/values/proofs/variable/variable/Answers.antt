@@ -6,12 +6,9 @@ use Rattle.std.proofs.lemmas.Result.{err_from_is_err_and}
 use Rattle.syntax.specs.Machine.{value, name, close}
 use Rattle.parser.specs.View.{token_of}
 use Rattle.parser.specs.Promise.{took, stopped}
-use Rattle.parser.proofs.Moves.{from_item, ready_behind, ready_at, narrow_end, took_one, took_to, took_closed, ok_took, err_stopped, then, above}
+use Rattle.parser.proofs.Moves.{narrow_end, took_one, took_to, took_closed, ok_took, err_stopped, then, above}
 use Rattle.values.proofs.Steps.{at_variable}
 use Rattle.values.proofs.variable.variable.Goals as goal
-
-pub name-requires : goal.name-requires
-name-requires c = (ready_at c.args.token (ready_behind false _ (from_item c.requires.seen.at 0) c.args.token c.requires.seen.front (λ z. omega (arith, z, c.requires.kind_value))) _ c.reached.ensures.next c.reached.ensures.end).inside
 
 pub close-requires : goal.close-requires
 close-requires c = narrow_end (ok_took (c.in_ok-named.ensures false)).went.ready c.args.tokens.now.holds.short

@@ -1,19 +1,9 @@
 -- `Tokens::peek` meets its contract. Assumes nothing.
 use mathlib.Core.Path.{refl, sym, ◌∙◌}
 use native.Mathlib.Omega.{arith}
-use borrow.Author.Rules.{rules}
 use Rattle.tape.specs.Answers.{item_of}
 use Rattle.parser.proofs.Items.{entry_inside, is_code, passed, found}
 use Rattle.parser.proofs.tokens.Tokens.peek.Goals as goal
-
-pub loop-e-init : goal.loop-e-init
-loop-e-init c = (search rules, c.requires, refl)
-
-pub get_entry-e-requires : goal.get_entry-e-requires
-get_entry-e-requires c = omega (arith, c.args.self.now.holds.roomy, c.loop-e.invariant.1)
-
-pub overflow_add-i : goal.overflow_add-i
-overflow_add-i c = omega (arith, c.args.self.now.holds.roomy, c.loop-e.invariant.1)
 
 pub token_kind-requires-clause-code : goal.token_kind-requires-clause-code
 token_kind-requires-clause-code c = is_code _ _ c.args.self.now.holds c.loop-e.i c.loop-e.invariant.1 (item_of c.get_entry-e.result) c.get_entry-e.ensures
@@ -28,9 +18,6 @@ invariant_of-result c = record {
 
 pub returns-then-not-is_ignored : goal.returns-then-not-is_ignored
 returns-then-not-is_ignored c = found _ _ c.args.self.now.holds c.loop-e.i c.loop-e.invariant.1 (item_of c.get_entry-e.result) c.get_entry-e.ensures (sym c.is_ignored.ensures ∙ c.if-not-is_ignored.true) _ c.loop-e.invariant.0 c.loop-e.invariant.2 _ c.token_kind.ensures refl refl refl
-
-pub loop-e-smaller : goal.loop-e-smaller
-loop-e-smaller c = omega (arith, c.loop-e.invariant.1)
 
 pub loop-e-preserved : goal.loop-e-preserved
 loop-e-preserved c =
