@@ -1,5 +1,5 @@
 // Standard output through a buffer.
-ghost use Rattle.std.specs.Prelude.{◌≡◌, false, ◌+◌, ◌-◌, ◌^◌, ◌≤◌, min, OnOk};
+ghost use Rattle.std.specs.Prelude.{◌≡◌, true, false, ◌+◌, ◌-◌, ◌^◌, ◌≤◌, min, OnOk};
 ghost use Rattle.io.specs.Digits.{IsDigitCount};
 
 use std::fmt;
@@ -31,7 +31,9 @@ impl Output {
     }
 
     // Stays: a byte at a time, here and in `put`, with a count. Copying slices is no plainer: bytes may pass the buffer's end, and go on at its start.
-    fn push(&mut self, b: u8) -> fmt::Result {
+    fn push(&mut self, b: u8) -> fmt::Result
+        ensures { self.old.failed ≡ true → self.new.failed ≡ true }
+    {
         if self.filled == 65536 {
             self.flush()?;
         }
@@ -41,7 +43,9 @@ impl Output {
     }
 
     // Puts bytes that need not be UTF-8.
-    pub fn put(&mut self, bytes: &[u8]) -> fmt::Result {
+    pub fn put(&mut self, bytes: &[u8]) -> fmt::Result
+        ensures { self.old.failed ≡ true → self.new.failed ≡ true }
+    {
         for b in bytes {
             self.push(*b)?;
         }
@@ -50,7 +54,8 @@ impl Output {
 
     // Writes what the buffer holds, if no write has failed before.
     pub fn flush(&mut self) -> fmt::Result
-        ensures { OnOk result ((self.new.filled ≡ 0) × (self.old.failed ≡ false)) }
+        ensures kept { self.old.failed ≡ true → self.new.failed ≡ true }
+        ensures ok { OnOk result ((self.new.filled ≡ 0) × (self.old.failed ≡ false)) }
     {
         if self.failed || !io::write_all(STDOUT, &self.buffer[..self.filled]) {
             self.failed = true;
