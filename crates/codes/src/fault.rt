@@ -1,4 +1,6 @@
 // "Errors and what they cover".
+ghost use Rattle.std.specs.Prelude.{◌≡◌, MatchOption};
+ghost use Rattle.codes.specs.Errors as numbers;
 ghost use Rattle.codes.specs.FaultNumbers.{Gives, Names};
 
 use crate::UnknownNumber;
@@ -93,3 +95,10 @@ impl fmt::Display for Fault {
 
 // No error.
 pub const NONE: u8 = 0;
+
+// The number of an error, where there is one; else that of none.
+pub fn number_or_none(error: Option<u8>) -> u8
+    ensures { MatchOption error (result ≡ numbers.none) (λ n. result ≡ n) }
+{
+    error.unwrap_or(NONE)
+}

@@ -25,11 +25,19 @@ pub struct Style {
 // How many numbers a field of 28 bits holds.
 const FIELD: usize = 0x1000_0000;
 
+// A hexadecimal digit.
+fn digit(d: u8) -> u8 {
+    b"0123456789ABCDEF"[usize::from(d % 16)]
+}
+
 // A tape's word, as document 01 writes it.
 pub fn put_word(out: &mut Output, e: Entry) -> fmt::Result {
-    let start = e.start % FIELD;
-    let size = e.size % FIELD;
-    write!(out, "{:02X}{start:07X}{size:07X}\n", e.code)
+    let start = (e.start % FIELD) as u64;
+    let size = (e.size % FIELD) as u64;
+    let word = (u64::from(e.code) * FIELD as u64 + start) * FIELD as u64 + size;
+    let digits = word.to_be_bytes().map(|b| [digit(b / 16), digit(b % 16)]);
+    out.put(digits.as_flattened())?;
+    out.write_str("\n")
 }
 
 // Item codes, as patterns.

@@ -6,7 +6,7 @@ ghost use Rattle.std.specs.Prelude.{◌≡◌};
 ghost use Rattle.base.specs.Text.{from};
 ghost use Rattle.codes.specs.Refusals.{depth_limit, item_tape_full};
 
-use codes::{Fault, Kind, Refusal, kind, node, refusal};
+use codes::{Fault, Kind, Refusal, fault, kind, node, refusal};
 use print::{
     ErrorCode, Medium, Output, Refused, Spot, entry_at, first_error, forward, put_error_item,
     put_shown, sum,
@@ -196,7 +196,8 @@ impl<'a> Page<'a> {
 
     // The error items, if there are any: each entry leads to its item.
     fn put_errors(self, out: &mut Output) -> fmt::Result {
-        if first_error(self.items, self.answer.items).is_none() {
+        let first = first_error(self.items, self.answer.items);
+        if fault::number_or_none(first) == fault::NONE {
             return Ok(());
         }
         out.write_str("<ol class=\"errors\">\n")?;

@@ -7,7 +7,7 @@ ghost use Rattle.codes.specs.EventCodes as nodes;
 ghost use Rattle.syntax.specs.Token.{plain, word_true, token_event, opens, closes, leaf, name_events, end_of};
 ghost use Rattle.parser.specs.Kinds.{number_of};
 ghost use Rattle.parser.specs.View.{token_of};
-ghost use Rattle.parser.specs.Events.{store, Wrote};
+ghost use Rattle.parser.specs.Events.{store, most, Wrote};
 
 use crate::token::{Peeked, TokenKind};
 use codes::{Kind, Node, node};
@@ -28,6 +28,17 @@ fn code_of(kind: TokenKind) -> u8
         // no error item is ever put out
         TokenKind::Word(_) | TokenKind::Error(_) => Kind::Name as u8,
     }
+}
+
+// Where the count stays: no text has so many events.
+const MOST: usize = 0x1_0000_0000;
+
+// One more, but no more than there can be.
+fn counted(count: usize) -> usize
+    ensures more { count < most → result ≡ count + 1 }
+    ensures stays { most ≤ count → result ≡ count }
+{
+    if count < MOST { count + 1 } else { count }
 }
 
 // Writes an event as entry number i, if there is room.
@@ -61,7 +72,7 @@ impl<'a> Events<'a> {
         ensures { Wrote self.old self.new (item code start size ∷ []) }
     {
         write(self.tape, self.count, code, start, size);
-        self.count = self.count.saturating_add(1);
+        self.count = counted(self.count);
     }
 
     // A node opens, whose first token is given.

@@ -136,10 +136,20 @@ pub enum Medium {
     Page,
 }
 
-// All of s, as it is shown there: no more than `most` characters, and `…` for the rest.
+// How many bytes at the front, and no more than `most`, are characters that are shown as they are, wherever it is: ASCII that is neither hidden nor markup.
+fn plain_run(s: &[u8], most: usize) -> usize {
+    s.iter()
+        .take(most)
+        .take_while(|b| matches!(b, b' ' | b'!' | b'#'..=b'%' | b'('..=b';' | b'=' | b'?'..=b'~'))
+        .count()
+}
+
+// All of s, as it is shown there: no more than `most` characters, and `…` for the rest. Most items are a run of plain characters, which is put at once.
 pub fn put_shown(out: &mut Output, medium: Medium, s: &[u8], most: usize) -> fmt::Result {
-    for (n, (i, c)) in Characters::new(s, 0).enumerate() {
-        if n == most {
+    let plain = plain_run(s, most).min(most);
+    out.put(reader::part(s, 0, plain))?;
+    for (n, (i, c)) in Characters::new(s, plain).enumerate() {
+        if n == most - plain {
             return put_more(out);
         }
         match medium {

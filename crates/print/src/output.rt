@@ -1,5 +1,5 @@
 // Standard output through a buffer.
-ghost use Rattle.std.specs.Prelude.{◌≡◌, true, false, ◌+◌, ◌-◌, ◌^◌, ◌≤◌, min, OnOk};
+ghost use Rattle.std.specs.Prelude.{◌≡◌, true, false, ◌+◌, ◌-◌, ◌^◌, ◌≤◌, min, OnOk, OnErr};
 ghost use Rattle.io.specs.Digits.{IsDigitCount};
 
 use std::fmt;
@@ -30,9 +30,9 @@ impl Output {
         }
     }
 
-    // Stays: a byte at a time, here and in `put`, with a count. Copying slices is no plainer: bytes may pass the buffer's end, and go on at its start.
     fn push(&mut self, b: u8) -> fmt::Result
-        ensures { self.old.failed ≡ true → self.new.failed ≡ true }
+        ensures kept { self.old.failed ≡ true → self.new.failed ≡ true }
+        ensures marked { OnErr result (self.new.failed ≡ true) }
     {
         if self.filled == 65536 {
             self.flush()?;
@@ -42,9 +42,27 @@ impl Output {
         Ok(())
     }
 
-    // Puts bytes that need not be UTF-8.
+    // Puts bytes that need not be UTF-8. Most fit in what is left of the buffer, and are copied at once.
+    // Inlined, since each piece of a row is put by itself: as calls these took a quarter more of a list's instructions.
+    #[inline(always)]
     pub fn put(&mut self, bytes: &[u8]) -> fmt::Result
-        ensures { self.old.failed ≡ true → self.new.failed ≡ true }
+        ensures kept { self.old.failed ≡ true → self.new.failed ≡ true }
+        ensures marked { OnErr result (self.new.failed ≡ true) }
+    {
+        let Some(free) = self.buffer[self.filled..].get_mut(..bytes.len()) else {
+            return self.put_through(bytes);
+        };
+        free.copy_from_slice(bytes);
+        self.filled += bytes.len();
+        Ok(())
+    }
+
+    // Puts bytes that pass the buffer's end, and go on at its start.
+    // Stays: a byte at a time. A full buffer is written when another byte comes, and not before: slices cut at its end would be no plainer.
+    #[inline(never)]
+    fn put_through(&mut self, bytes: &[u8]) -> fmt::Result
+        ensures kept { self.old.failed ≡ true → self.new.failed ≡ true }
+        ensures marked { OnErr result (self.new.failed ≡ true) }
     {
         for b in bytes {
             self.push(*b)?;
@@ -55,6 +73,7 @@ impl Output {
     // Writes what the buffer holds, if no write has failed before.
     pub fn flush(&mut self) -> fmt::Result
         ensures kept { self.old.failed ≡ true → self.new.failed ≡ true }
+        ensures marked { OnErr result (self.new.failed ≡ true) }
         ensures ok { OnOk result ((self.new.filled ≡ 0) × (self.old.failed ≡ false)) }
     {
         if self.failed || !io::write_all(STDOUT, &self.buffer[..self.filled]) {
@@ -67,6 +86,10 @@ impl Output {
 }
 
 impl fmt::Write for Output {
+    // A write that failed stays one.
+    ghost write_str_gives = { λ old _ new. old.failed ≡ true → new.failed ≡ true };
+
+    #[inline(always)]
     fn write_str(&mut self, s: &str) -> fmt::Result {
         self.put(s.as_bytes())
     }

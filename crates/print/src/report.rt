@@ -52,7 +52,7 @@ impl<'a> fmt::Display for Refused<'a> {
     fn fmt<W: fmt::Write>(&self, f: &mut fmt::Formatter<W>) -> fmt::Result {
         match Refusal::try_from(self.number) {
             Ok(Refusal::ErrorItem) => {
-                let error = self.first.unwrap_or(fault::NONE);
+                let error = fault::number_or_none(self.first);
                 write!(f, "error item {error}, {}", ErrorCode(error))
             }
             Ok(Refusal::NoSentence) if self.spot.byte == self.text.len() => {

@@ -4,6 +4,7 @@ ghost use Rattle.codes.specs.EventCodes as nodes;
 ghost use Rattle.codes.specs.ItemCodes as codes;
 ghost use Rattle.syntax.specs.Token.{word_on, is_fragment_name, opens, token_event};
 ghost use Rattle.syntax.specs.Machine.{spread as spread_due, named_type, opt_directives, selection_set, close};
+ghost use Rattle.parser.specs.declared.token.TokenKind.TheVariants as token_kind;
 ghost use Rattle.parser.specs.Kinds.{number_of};
 ghost use Rattle.parser.specs.View.{token_of, behind, Front, Seen};
 ghost use Rattle.parser.specs.Promise.{Goes, Begun};
@@ -22,12 +23,23 @@ pub struct Spread {
     ghost is: { (token_of dots).kind ≡ codes.dots },
 }
 
+// Is it a word that a FragmentName may be: all but `on`?
+#[tactic(auto, unfolding(syntax::specs::Token::is_fragment_name))]
+fn is_fragment_word(word: Word) -> bool
+    ensures { result ≡ is_fragment_name (number_of (token_kind.Word word)) }
+{
+    match word {
+        Word::True | Word::False | Word::Null => true,
+        Word::On => false,
+    }
+}
+
 // Is it a Name that a FragmentName may be?
 pub fn is_fragment_name(kind: TokenKind) -> bool
     ensures { result ≡ is_fragment_name (number_of kind) }
 {
     match kind {
-        TokenKind::Word(word) => word != Word::On,
+        TokenKind::Word(word) => is_fragment_word(word),
         _ => kind.is(Kind::Name),
     }
 }

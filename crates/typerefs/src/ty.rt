@@ -86,6 +86,14 @@ fn end_type(
     token.reached()
 }
 
+// A list type with no depth left is refused at the token after its `[`, whatever this is.
+fn too_deep(next: Peeked) -> Refused
+    ensures refusal { result.refusal ≡ Refusal.TooDeep }
+    ensures place { result.place ≡ next.start }
+{
+    next.refused(Refusal::TooDeep)
+}
+
 // A type but for its `!`, whose first token is given, with so much depth left: whether a `!` follows its item types is noted, and its events are
 // those that the notes say.
 #[cycle(types)]
@@ -109,8 +117,7 @@ fn base_type(
         return Err(token.refused(Refusal::NoSentence));
     }
     if depth == 0 {
-        let next = tokens.peek(token.next);
-        return Err(next.refused(Refusal::TooDeep));
+        return Err(too_deep(tokens.peek(token.next)));
     }
     events.open_with(Node::ListType, token);
     let item = walk(tokens, token.next, depth - 1, bangs, events)?;

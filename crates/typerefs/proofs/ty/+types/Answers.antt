@@ -19,7 +19,7 @@ base_type-returns-then-not-is_list t c = λ at F.
 
 pub base_type-returns-then-depth-eq0 : goal.base_type-returns-then-depth-eq0
 base_type-returns-then-depth-eq0 t c = λ at F.
-    refused refl refl (rw (c.refused-then-depth-eq0.ensures.refusal, c.refused-then-depth-eq0.ensures.place) (base_deep c.args.tokens.now.text.now at c.args.token F c.args.depth c.if-depth-eq0.true (is_yes c.is-is_list.ensures c.if-not-is_list.false) c.peek-next.result c.peek-next.ensures))
+    refused refl refl (rw (c.too_deep.ensures.refusal, c.too_deep.ensures.place) (base_deep c.args.tokens.now.text.now at c.args.token F c.args.depth c.if-depth-eq0.true (is_yes c.is-is_list.ensures c.if-not-is_list.false) c.peek.result c.peek.ensures))
 
 pub base_type-returns-in_err-item : goal.base_type-returns-in_err-item
 base_type-returns-in_err-item t c =

@@ -1,8 +1,7 @@
 -- `Events::put` meets its contract. Assumes nothing.
 use mathlib.Core.Path.{refl}
-use native.Mathlib.Omega.{arith}
 use Rattle.parser.proofs.Writing.{puts_one}
 use Rattle.parser.proofs.events.Events.put.Goals as goal
 
 pub returns : goal.returns
-returns c = record { same = refl; puts = puts_one _ _ _ _ _ c.write.auto.tape c.write.ensures (λ h. omega (arith, c.saturating_add-self.ensures)) }
+returns c = record { same = refl; puts = puts_one _ _ _ _ _ c.write.auto.tape c.write.ensures c.counted-self.ensures.more }
