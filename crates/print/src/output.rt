@@ -90,7 +90,10 @@ impl fmt::Write for Output {
     ghost write_str_gives = { λ old _ new. old.failed ≡ true → new.failed ≡ true };
 
     #[inline(always)]
-    fn write_str(&mut self, s: &str) -> fmt::Result {
+    fn write_str(&mut self, s: &str) -> fmt::Result
+        ensures kept { self.old.failed ≡ true → self.new.failed ≡ true }
+        ensures marked { OnErr result (self.new.failed ≡ true) }
+    {
         self.put(s.as_bytes())
     }
 }

@@ -24,7 +24,7 @@ pub put_entry-requires : goal.put_entry-requires
 put_entry-requires c =
     let f = put_fits c.args.text.now c.args.tape.now c.args.limit c.loop-n.tape c.loop-n.cursor c.loop-n.n c.loop-n.invariant c.advance-found.result c.advance-found.ensures c.code_of-code.result c.code_of-code.ensures c.size_of-size.result c.size_of-size.ensures (due (goal.at.put_entry-requires c).After-size_of-size) in
     record {
-      index_bound = f.0;
+      index_bound = omega (arith, f.0);
       start_bound = omega (arith, f.1.0);
       size_bound = f.1.1;
     }
